@@ -1,0 +1,10 @@
+// Levels, names, frames and their bytes, and the refusals of the whole repository.
+pub mod refusal;
+pub mod types;
+pub mod level;
+pub mod parts;
+pub mod write;
+pub mod read;
+
+#[cfg(test)]
+mod tests;
