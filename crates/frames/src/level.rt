@@ -7,7 +7,6 @@ ghost use Rattle.frames.specs.Made.{level-number, heads-of, size-for, level-fo
 use crate::refusal::Refusal;
 use crate::types::Level;
 use crate::types::RingSize;
-use std::fmt;
 
 impl RingSize {
     // Two to eight heads.
@@ -61,18 +60,6 @@ impl Level {
             9 => size.heads - 1,
             8 => size.heads / 2,
             others => others,
-        }
-    }
-}
-
-pub impl fmt::Display for Level as LevelDisplay {
-    fn fmt<W: fmt::Write>(&self, f: &mut fmt::Formatter<W>) -> fmt::Result {
-        match self.number {
-            0 => write!(f, "total"),
-            1 => write!(f, "1 other head"),
-            8 => write!(f, "majority"),
-            9 => write!(f, "safe"),
-            others => write!(f, "{others} other heads"),
         }
     }
 }

@@ -5,6 +5,7 @@ pub mod level;
 pub mod parts;
 pub mod write;
 pub mod read;
+pub mod show;
 
 #[cfg(test)]
 mod tests;

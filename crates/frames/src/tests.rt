@@ -1,9 +1,7 @@
 // Worked frames and levels.
-use crate::level::LevelDisplay;
 use crate::read::read;
 use crate::refusal::Refusal;
 use crate::refusal::RefusalDebug;
-use crate::refusal::RefusalDisplay;
 use crate::refusal::RefusalPartialEq;
 use crate::types::Body;
 use crate::types::Frame;
