@@ -2,7 +2,9 @@
 pub mod refusal;
 pub mod types;
 pub mod level;
-pub mod parts;
+pub mod names;
+pub mod body;
+pub mod packet;
 pub mod write;
 pub mod read;
 pub mod show;

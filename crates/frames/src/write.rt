@@ -13,7 +13,6 @@ ghost use Rattle.frames.specs.Values.{names-ok, frame-ok, data-frame, ack-fram
 ghost use Rattle.frames.specs.Types.{name-of, names-of, asked-of, body-of, message-of, packet-of, frame-of, meant};
 ghost use Rattle.frames.specs.Written.{name-bytes, written, asked-byte, write-answer, pack-answer, front-written};
 ghost use Rattle.frames.specs.Reading.{read};
-use crate::parts::put;
 use crate::refusal::Refusal;
 use crate::types::Body;
 use crate::types::Frame;
@@ -22,6 +21,14 @@ use crate::types::Names;
 use crate::types::Packet;
 use crate::types::RingSize;
 use crate::types::To;
+
+// Copies the bytes into out from `at` on.
+pub(crate) fn put(out: &mut [u8], at: usize, bytes: &[u8])
+    requires { ⌜ at + length (now bytes) ≤ length (now out) ⌝ }
+    ensures { λ _. ⌜ now (out .exit) ≡ paste (now (out .entry)) at (now (bytes .entry)) (length (now (bytes .entry))) ⌝ }
+{
+    out[at..at + bytes.len()].copy_from_slice(bytes);
+}
 
 fn ack_suits(size: RingSize, stamp: u32, issuer: u8, names: Names) -> bool
     ensures { λ r. ⌜ r ≡ (leb 1 stamp && (leb (stamp + names .count) 1000000 && (ltb issuer (size .heads) && names-ok (size .heads) (names-of names)))) ⌝ }

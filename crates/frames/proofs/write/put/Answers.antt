@@ -2,7 +2,7 @@ use mathlib.Core.Path.{refl}
 use native.Mathlib.Omega.{arith}
 use lib.ListN.{length}
 use Rattle.std.proofs.shelf.Parts.{putMid-paste}
-use Rattle.frames.proofs.parts.put.Needs as need
+use Rattle.frames.proofs.write.put.Needs as need
 
 pub returns : need.returns
 returns c = putMid-paste (c .args .at) _ (c .args .out .now) _ (c .args .bytes .now) (length (c .args .bytes .now)) (c .copy-from-slice .ensures .after) (omega arith) refl

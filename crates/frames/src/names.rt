@@ -1,21 +1,17 @@
-// Making and reading names, lists of names, bodies and packets.
+// Names, lists of names, and whom a NACK asks.
 ghost use mathlib.Core.Path.{_≡_};
 ghost use mathlib.Core.Bool.{cond};
 ghost use mathlib.Core.List.{[], _∷_, _++_};
-ghost use Prim.Native.Nat.{ℕ, _+_, _≤_};
 ghost use lib.Dec.{ltb};
-ghost use lib.ListN.{length, take};
-ghost use lib.Seq.{paste};
+ghost use lib.ListN.{length};
 ghost use Rattle.frames.specs.Values.{name-ok, names-ok, asked-ok};
-ghost use Rattle.frames.specs.Types.{meant, name-of, names-of, asked-of, body-of, packet-of};
+ghost use Rattle.frames.specs.Types.{meant, name-of, names-of, asked-of};
 ghost use Rattle.frames.specs.Written.{asked-byte};
-ghost use Rattle.frames.specs.Made.{name-for, body-for, packet-for};
+ghost use Rattle.frames.specs.Made.{name-for};
 use crate::refusal::Refusal;
-use crate::types::Body;
 use crate::types::Level;
 use crate::types::Name;
 use crate::types::Names;
-use crate::types::Packet;
 use crate::types::RingSize;
 use crate::types::To;
 
@@ -74,14 +70,6 @@ impl Names {
     }
 }
 
-// Copies the bytes into out from `at` on.
-pub(crate) fn put(out: &mut [u8], at: usize, bytes: &[u8])
-    requires { ⌜ at + length (now bytes) ≤ length (now out) ⌝ }
-    ensures { λ _. ⌜ now (out .exit) ≡ paste (now (out .entry)) at (now (bytes .entry)) (length (now (bytes .entry))) ⌝ }
-{
-    out[at..at + bytes.len()].copy_from_slice(bytes);
-}
-
 impl To {
     // The byte that it is written as.
     pub(crate) fn byte(self) -> u8
@@ -101,45 +89,5 @@ impl To {
             To::Head(head) => head < size.heads,
             To::Everyone => true,
         }
-    }
-}
-
-impl Body {
-    pub fn new(bytes: &[u8]) -> Result<Body, Refusal>
-        ensures { λ r. ⌜ meant body-of r ≡ body-for (now (bytes .entry)) ⌝ }
-    {
-        let len = bytes.len();
-        if len < 1 || len > 8 {
-            return Err(Refusal::BadBodyLength);
-        }
-        let mut all = [0; 8];
-        put(&mut all, 0, bytes);
-        Ok(Body { bytes: all, len: len as u8 })
-    }
-
-    pub fn as_slice(&self) -> &[u8]
-        ensures { λ r. ⌜ now r ≡ body-of (now (self .entry)) ⌝ }
-    {
-        &self.bytes[0..self.len as usize]
-    }
-}
-
-impl Packet {
-    pub fn new(bytes: &[u8]) -> Result<Packet, Refusal>
-        ensures { λ r. ⌜ meant packet-of r ≡ packet-for (now (bytes .entry)) ⌝ }
-    {
-        let len = bytes.len();
-        if len > 32 {
-            return Err(Refusal::NotAFrame);
-        }
-        let mut all = [0; 32];
-        put(&mut all, 0, bytes);
-        Ok(Packet { bytes: all, len: len as u8 })
-    }
-
-    pub fn as_slice(&self) -> &[u8]
-        ensures { λ r. ⌜ now r ≡ packet-of (now (self .entry)) ⌝ }
-    {
-        &self.bytes[0..self.len as usize]
     }
 }
