@@ -2,3 +2,6 @@
 pub mod values;
 mod measure;
 pub mod kind;
+
+#[cfg(test)]
+mod tests;

@@ -1,6 +1,6 @@
 -- Writing one part after another at the front of a slice.
 use mathlib.Core.Path.{_≡_, refl, sym, ap, _∙_}
-use mathlib.Core.Bool.{Bool, true, cond}
+use mathlib.Core.Bool.{true}
 use mathlib.Core.List.{List, [], _∷_, _++_}
 use Prim.Native.Nat.{ℕ, _+_, _*_, _≤_, _<_}
 use native.Mathlib.Omega.{arith}
@@ -13,7 +13,6 @@ use Rattle.std.proofs.shelf.Edits.{paste-paste}
 use Rattle.std.specs.shelf.Lists.{joined}
 use Rattle.std.specs.declared.result.Result.the-variants.{Ok, Err}
 use Rattle.std.proofs.shelf.Tests.{cond-true, le-leb}
-use Rattle.frames.specs.declared.refusal.Refusal.{Refusal}
 use Rattle.frames.specs.declared.refusal.Refusal.the-variants.{MemoryTooShort, FieldOutOfRange}
 use Rattle.frames.specs.Values.{Name, Frame, frame-ok}
 use Rattle.frames.specs.Written.{name-bytes, written, write-answer}
@@ -51,12 +50,11 @@ names-step d o o′ ns i z h k e f =
     let g = paste-paste d 8 (joined name-bytes (take i ns)) (name-bytes (getD ns i z)) (6 * i) 6 t refl k in
     f ∙ rw (e, take-more ns i z h, ← j, mul-add) g
 
--- what was written at the front is read off it again, and passed its test
-pub front-again : (a o bs : List ℕ) (ok : Bool) (e : Refusal) → ok ≡ true → o ≡ paste a 0 bs (length bs) → Ok (take (length bs) o) ≡ cond ok (Ok bs) (Err e)
-front-again a o bs ok e t w =
+-- what was written at the front is read off it again
+pub front-again : (a o bs : List ℕ) → o ≡ paste a 0 bs (length bs) → take (length bs) o ≡ bs
+front-again a o bs w =
     let p = paste-first a bs (length bs) refl in
-    let q : take (length bs) o ≡ bs = rw (w, p) (take-at bs (drop (0 + length bs) a) (length bs) refl) in
-    ap Ok q ∙ sym (cond-true ok (Ok bs) (Err e) t)
+    rw (w, p) (take-at bs (drop (0 + length bs) a) (length bs) refl)
 
 -- there is room, and the fields are in range
 pub write-goes : (n : ℕ) (f : Frame) (len room : ℕ) → len ≡ length (written n f) → len ≤ room → frame-ok n f ≡ true → Ok len ≡ write-answer n f room

@@ -1,5 +1,8 @@
 // Bodies.
 ghost use mathlib.Core.Path.{_≡_};
+ghost use mathlib.Core.Bool.{true};
+ghost use lib.ListN.{length};
+ghost use Rattle.frames.specs.Bounds.{body-length-ok};
 ghost use Rattle.frames.specs.Types.{meant, body-of};
 ghost use Rattle.frames.specs.Made.{body-for};
 use crate::refusal::Refusal;
@@ -11,12 +14,16 @@ impl Body {
         ensures { λ r. ⌜ meant body-of r ≡ body-for (now (bytes .entry)) ⌝ }
     {
         let len = bytes.len();
-        if len < 1 || len > 8 {
-            return Err(Refusal::BadBodyLength);
-        }
+        if len < 1 || len > 8 { Err(Refusal::BadBodyLength) } else { Ok(Body::copied(bytes)) }
+    }
+
+    fn copied(bytes: &[u8]) -> Body
+        requires { ⌜ body-length-ok (length (now bytes)) ≡ true ⌝ }
+        ensures { λ r. ⌜ body-of r ≡ now (bytes .entry) ⌝ }
+    {
         let mut all = [0; 8];
         put(&mut all, 0, bytes);
-        Ok(Body { bytes: all, len: len as u8 })
+        Body { bytes: all, len: bytes.len() as u8 }
     }
 
     pub fn as_slice(&self) -> &[u8]

@@ -2,8 +2,8 @@
 ghost use mathlib.Core.Path.{_≡_};
 ghost use mathlib.Core.Bool.{cond};
 ghost use mathlib.Core.List.{[], _∷_, _++_};
+ghost use Prim.Native.Nat.{_<_};
 ghost use lib.Dec.{ltb};
-ghost use lib.ListN.{length};
 ghost use Rattle.frames.specs.Values.{name-ok, names-ok, asked-ok};
 ghost use Rattle.frames.specs.Types.{meant, name-of, names-of, asked-of};
 ghost use Rattle.frames.specs.Written.{asked-byte};
@@ -46,15 +46,22 @@ impl Names {
 
     // One name more; false, and nothing changes, where there are four.
     pub fn push(&mut self, name: Name) -> bool
-        ensures answer { λ r. ⌜ r ≡ ltb (length (names-of (now (self .entry)))) 4 ⌝ }
+        ensures answer { λ r. ⌜ r ≡ ltb (now (self .entry) .count) 4 ⌝ }
         ensures after { λ r. ⌜ names-of (now (self .exit)) ≡ cond r (names-of (now (self .entry)) ++ name-of name ∷ []) (names-of (now (self .entry))) ⌝ }
     {
-        if self.count >= 4 {
-            return false;
+        let room = self.count < 4;
+        if room {
+            self.append(name);
         }
+        room
+    }
+
+    fn append(&mut self, name: Name)
+        requires { ⌜ now self .count < 4 ⌝ }
+        ensures { λ _. ⌜ names-of (now (self .exit)) ≡ names-of (now (self .entry)) ++ name-of name ∷ [] ⌝ }
+    {
         self.all[self.count as usize] = name;
         self.count += 1;
-        true
     }
 
     pub fn suit(&self, size: RingSize) -> bool

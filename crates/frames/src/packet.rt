@@ -1,5 +1,7 @@
 // Packets.
 ghost use mathlib.Core.Path.{_≡_};
+ghost use Prim.Native.Nat.{_≤_};
+ghost use lib.ListN.{length};
 ghost use Rattle.frames.specs.Types.{meant, packet-of};
 ghost use Rattle.frames.specs.Made.{packet-for};
 use crate::refusal::Refusal;
@@ -10,13 +12,16 @@ impl Packet {
     pub fn new(bytes: &[u8]) -> Result<Packet, Refusal>
         ensures { λ r. ⌜ meant packet-of r ≡ packet-for (now (bytes .entry)) ⌝ }
     {
-        let len = bytes.len();
-        if len > 32 {
-            return Err(Refusal::NotAFrame);
-        }
+        if bytes.len() > 32 { Err(Refusal::NotAFrame) } else { Ok(Packet::copied(bytes)) }
+    }
+
+    fn copied(bytes: &[u8]) -> Packet
+        requires { ⌜ length (now bytes) ≤ 32 ⌝ }
+        ensures { λ r. ⌜ packet-of r ≡ now (bytes .entry) ⌝ }
+    {
         let mut all = [0; 32];
         put(&mut all, 0, bytes);
-        Ok(Packet { bytes: all, len: len as u8 })
+        Packet { bytes: all, len: bytes.len() as u8 }
     }
 
     pub fn as_slice(&self) -> &[u8]

@@ -2,7 +2,7 @@
 ghost use mathlib.Core.Path.{_≡_};
 ghost use mathlib.Core.Bool.{Bool, true, cond};
 ghost use mathlib.Core.List.{List};
-ghost use Prim.Native.Nat.{ℕ, _+_, _*_, _≤_};
+ghost use Prim.Native.Nat.{ℕ, _+_, _*_, _<_, _≤_};
 ghost use lib.ListN.{length, drop};
 ghost use Rattle.std.specs.Vec.{made};
 ghost use Rattle.frames.specs.Values.{Name as MName, names-ok};
@@ -100,11 +100,9 @@ fn read_ack(size: RingSize, bytes: &[u8]) -> Result<Frame, Refusal>
 }
 
 fn read_kind(size: RingSize, bytes: &[u8]) -> Result<Frame, Refusal>
+    requires { ⌜ 0 < length (now bytes) ⌝ }
     ensures { λ r. ⌜ meant frame-of r ≡ read-by-rule (size .heads) (now (bytes .entry)) ⌝ }
 {
-    if bytes.is_empty() {
-        return Err(Refusal::NotAFrame);
-    }
     match bytes[0] {
         1 => read_data(size, bytes),
         2 => read_ack(size, bytes),
@@ -118,7 +116,7 @@ pub fn read(size: RingSize, bytes: &[u8]) -> Result<Frame, Refusal>
     ensures answer { λ r. ⌜ meant frame-of r ≡ read-by-rule (size .heads) (now (bytes .entry)) ⌝ }
     ensures forth { λ r. ⌜ made r (λ f. written (size .heads) (frame-of f) ≡ now (bytes .entry)) ⌝ }
 {
-    read_kind(size, bytes)
+    if bytes.is_empty() { Err(Refusal::NotAFrame) } else { read_kind(size, bytes) }
 }
 
 // Writing and reading undo one another, for every frame and all bytes.

@@ -129,16 +129,21 @@ pub fn write(size: RingSize, frame: Frame, out: &mut [u8]) -> Result<usize, Refu
     Ok(len)
 }
 
+fn packed(size: RingSize, frame: Frame) -> Packet
+    requires { ⌜ frame-ok (size .heads) (frame-of frame) ≡ true ⌝ }
+    ensures bytes { λ r. ⌜ packet-of r ≡ written (size .heads) (frame-of frame) ⌝ }
+    ensures back { λ r. ⌜ read (size .heads) (packet-of r) ≡ Ok (frame-of frame) ⌝ }
+{
+    let len = frame.len();
+    let mut bytes = [0; 32];
+    write_front(size, frame, &mut bytes);
+    Packet { bytes, len: len as u8 }
+}
+
 // The frame as a packet, for a link to carry.
 pub fn pack(size: RingSize, frame: Frame) -> Result<Packet, Refusal>
     ensures answer { λ r. ⌜ meant packet-of r ≡ pack-answer (size .heads) (frame-of frame) ⌝ }
     ensures back { λ r. ⌜ made r (λ p. read (size .heads) (packet-of p) ≡ Ok (frame-of frame)) ⌝ }
 {
-    if !frame.suits(size) {
-        return Err(Refusal::FieldOutOfRange);
-    }
-    let len = frame.len();
-    let mut bytes = [0; 32];
-    write_front(size, frame, &mut bytes);
-    Ok(Packet { bytes, len: len as u8 })
+    if frame.suits(size) { Ok(packed(size, frame)) } else { Err(Refusal::FieldOutOfRange) }
 }

@@ -8,6 +8,7 @@ use Rattle.std.proofs.shelf.Results.{err-from-errBy}
 use Rattle.std.proofs.shelf.Tests.{cond-true, lt-ltb}
 use Rattle.frames.specs.Values.{Name}
 use Rattle.frames.specs.Types.{name-of, names-of}
+use Rattle.frames.proofs.Naming.{length-names-of}
 use Rattle.frames.proofs.Steps.{read-stops, read-more, read-ends, length-names-in}
 use Rattle.frames.proofs.read.read_names.Needs as need
 
@@ -24,7 +25,8 @@ loop-i-again c =
     let x = name-of (c .in-Continue-name .name) in
     let m = read-more n i (c .args .bytes .now) x xs (c .loop-i .inv .0) (c .loop-i .inv .1) (c .in-Continue-name .ensures tt) in
     let l : length xs ≡ i = ap length (c .loop-i .inv .0) ∙ length-names-in i _ in
-    let r : c .push .result ≡ true = c .push .ensures .answer ∙ lt-ltb (length xs) 4 (omega arith) in
+    let k = length-names-of (c .loop-i .names) in
+    let r : c .push .result ≡ true = c .push .ensures .answer ∙ lt-ltb (c .loop-i .names .count) 4 (omega arith) in
     (c .push .ensures .after ∙ (cond-true (c .push .result) (xs ++ x ∷ []) xs r ∙ m .0), m .1)
 
 pub returns : need.returns
