@@ -1,5 +1,5 @@
 // Accounts of frames for people: lines of base-sixteen text, what each is, and how many there are.
 pub mod hex;
 pub mod line;
-pub mod tally;
 pub mod show;
+pub mod tally;

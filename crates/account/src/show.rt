@@ -31,7 +31,10 @@ pub struct Entry {
 }
 
 // Writes what the body says where it is of this kind, and answers whether it was.
-fn say<K: Kind + fmt::Display + Drop, W: fmt::Write>(body: &Body, f: &mut fmt::Formatter<W>) -> Result<bool, fmt::Error> {
+fn say<K: Kind + fmt::Display + Drop, W: fmt::Write>(
+    body: &Body,
+    f: &mut fmt::Formatter<W>,
+) -> Result<bool, fmt::Error> {
     match decode::<K>(body) {
         Ok(value) => {
             write!(f, ": {value}")?;
@@ -63,13 +66,21 @@ fn show_names<W: fmt::Write>(names: Names, f: &mut fmt::Formatter<W>) -> fmt::Re
     Ok(())
 }
 
-fn show_frame<W: fmt::Write>(size: RingSize, frame: Frame, f: &mut fmt::Formatter<W>) -> fmt::Result {
+fn show_frame<W: fmt::Write>(
+    size: RingSize,
+    frame: Frame,
+    f: &mut fmt::Formatter<W>,
+) -> fmt::Result {
     match frame {
         Frame::Data { name, body } => {
             write!(f, "Data: {name}")?;
             show_body(body, f)
         }
-        Frame::Ack { stamp, issuer, names } => {
+        Frame::Ack {
+            stamp,
+            issuer,
+            names,
+        } => {
             let next = (issuer as u16 + 1) % size.heads as u16;
             write!(f, "ACK: stamp {stamp}, issuer {issuer}, next {next}")?;
             show_names(names, f)

@@ -32,7 +32,11 @@ impl Line {
     {
         match *self {
             Line::Heard(frame) => sort_of_frame(frame),
-            Line::Refused(refusal) => if refusal.number() == 11 { Sort::NoFrame } else { Sort::OutOfRange },
+            Line::Refused(refusal) => if refusal.number() == 11 {
+                Sort::NoFrame
+            } else {
+                Sort::OutOfRange
+            },
             Line::NotHex => Sort::NoHex,
         }
     }

@@ -29,6 +29,7 @@ pub trait Kind: Sized {
     ghost reads: { List ℕ → Result Self Refused };
 
     law back: { (x : Self) → good x ≡ true → reads (bytes x) ≡ Ok x };
+
     law fits: { (x : Self) → body-length-ok (length (bytes x)) ≡ true };
 
     // Writes the value at the front of out, and answers its length.
@@ -43,7 +44,9 @@ pub trait Kind: Sized {
 
 pub impl Kind for Door as DoorKind {
     ghost good = { door-ok };
+
     ghost bytes = { written-door };
+
     ghost reads = { door-in };
 
     fn write(&self, out: &mut [u8; 8]) -> Result<usize, Refusal> {
@@ -60,13 +63,18 @@ pub impl Kind for Door as DoorKind {
         if body.len() != 3 || body[0] != 2 || body[1] >= 8 {
             return Err(Refusal::NotThisKind);
         }
-        Ok(Door { compartment: body[1], open: body[2] != 0 })
+        Ok(Door {
+            compartment: body[1],
+            open: body[2] != 0,
+        })
     }
 }
 
 pub impl Kind for Reading as ReadingKind {
     ghost good = { reading-ok };
+
     ghost bytes = { reading-bytes };
+
     ghost reads = { reading-in };
 
     fn write(&self, out: &mut [u8; 8]) -> Result<usize, Refusal> {
@@ -81,7 +89,9 @@ pub impl Kind for Reading as ReadingKind {
 
 pub impl Kind for SetPoint as SetPointKind {
     ghost good = { set-point-ok };
+
     ghost bytes = { set-point-bytes };
+
     ghost reads = { set-point-in };
 
     fn write(&self, out: &mut [u8; 8]) -> Result<usize, Refusal> {
@@ -90,7 +100,10 @@ pub impl Kind for SetPoint as SetPointKind {
 
     fn read(body: &[u8]) -> Result<SetPoint, Refusal> {
         let (compartment, temperature) = read_measure(3, body)?;
-        Ok(SetPoint { compartment, temperature })
+        Ok(SetPoint {
+            compartment,
+            temperature,
+        })
     }
 }
 

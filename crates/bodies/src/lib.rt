@@ -1,7 +1,6 @@
 // The kinds of body: readings, doors and set points.
-pub mod values;
-mod measure;
 pub mod kind;
-
+mod measure;
 #[cfg(test)]
 mod tests;
+pub mod values;

@@ -19,7 +19,12 @@ impl Temperature {
     }
 }
 
-pub(crate) fn write_measure(kind: u8, place: u8, temperature: Temperature, out: &mut [u8; 8]) -> Result<usize, Refusal>
+pub(crate) fn write_measure(
+    kind: u8,
+    place: u8,
+    temperature: Temperature,
+    out: &mut [u8; 8],
+) -> Result<usize, Refusal>
     ensures answer { λ r. ⌜ r ≡ cond (measure-ok place (temperature .hundredths)) (Ok 4) (Err ValueOutOfRange) ⌝ }
     ensures after { λ _. ⌜ now (out .exit) ≡ cond (measure-ok place (temperature .hundredths)) (measure-bytes kind place (temperature .hundredths) ++ drop 4 (now (out .entry))) (now (out .entry)) ⌝ }
 {
@@ -41,6 +46,12 @@ pub(crate) fn read_measure(kind: u8, body: &[u8]) -> Result<(u8, Temperature), R
     if body.len() != 4 || body[0] != kind || body[1] >= 8 {
         return Err(Refusal::NotThisKind);
     }
-    let temperature = Temperature { hundredths: i16::from_be_bytes([body[2], body[3]]) };
-    if temperature.is_in_range() { Ok((body[1], temperature)) } else { Err(Refusal::NotThisKind) }
+    let temperature = Temperature {
+        hundredths: i16::from_be_bytes([body[2], body[3]]),
+    };
+    if temperature.is_in_range() {
+        Ok((body[1], temperature))
+    } else {
+        Err(Refusal::NotThisKind)
+    }
 }

@@ -23,7 +23,10 @@ use std::test::*;
 
 #[test]
 fn a_probe_reads_cold() -> Result<(), Fail> {
-    let reading = Reading { probe: 4, temperature: Temperature { hundredths: -1850 } };
+    let reading = Reading {
+        probe: 4,
+        temperature: Temperature { hundredths: -1850 },
+    };
     let body = encode(&reading)?;
     check(body.as_slice() == [0x01, 0x04, 0xF8, 0xC6])?;
     check_eq(decode::<Reading>(&body)?, reading)
@@ -31,16 +34,36 @@ fn a_probe_reads_cold() -> Result<(), Fail> {
 
 #[test]
 fn any_byte_but_nought_is_an_open_door() -> Result<(), Fail> {
-    check_eq(Door::read(&[0x02, 0x05, 0x07])?, Door { compartment: 5, open: true })?;
-    let body = encode(&Door { compartment: 5, open: true })?;
+    check_eq(
+        Door::read(&[0x02, 0x05, 0x07])?,
+        Door {
+            compartment: 5,
+            open: true,
+        },
+    )?;
+    let body = encode(
+        &Door {
+            compartment: 5,
+            open: true,
+        },
+    )?;
     check(body.as_slice() == [0x02, 0x05, 0x01])
 }
 
 #[test]
 fn values_and_bodies_out_of_range() -> Result<(), Fail> {
-    let warm = SetPoint { compartment: 2, temperature: Temperature { hundredths: 5001 } };
-    check_eq(encode(&warm).err().ok_or("written")?, Refusal::ValueOutOfRange)?;
+    let warm = SetPoint {
+        compartment: 2,
+        temperature: Temperature { hundredths: 5001 },
+    };
+    check_eq(
+        encode(&warm).err().ok_or("written")?,
+        Refusal::ValueOutOfRange,
+    )?;
     let reading = Body::new(&[0x01, 0x04, 0xF8, 0xC6])?;
-    check_eq(decode::<SetPoint>(&reading).err(), Some(Refusal::NotThisKind))?;
+    check_eq(
+        decode::<SetPoint>(&reading).err(),
+        Some(Refusal::NotThisKind),
+    )?;
     check_eq(decode::<Door>(&reading).err(), Some(Refusal::NotThisKind))
 }

@@ -90,6 +90,6 @@ ack-goes n t bs xs r c x w e g =
     let p = passed (names-ok n (names-in (getD bs 7 0) (drop 8 bs))) _ xs FieldOutOfRange e in
     let i = getD bs 5 0 in
     let f : ack-frame (record { stamp = t; issuer = i; names = xs }) ≡ ack-in bs =
-        ap (λ (z : ℕ). ack-frame (record { stamp = z; issuer = i; names = xs })) w ∙ ap (λ (zs : List Name). ack-frame (record { stamp = word-at bs 1; issuer = i; names = zs })) (p .1) in
+    ap (λ (z : ℕ). ack-frame (record { stamp = z; issuer = i; names = xs })) w ∙ ap (λ (zs : List Name). ack-frame (record { stamp = word-at bs 1; issuer = i; names = zs })) (p .1) in
     let y : eqb (getD bs 6 0) (after n i) ≡ true = eq-eqb (getD bs 6 0) (after n i) x in
     g ∙ (ap (ranged n true) f ∙ (sym (ap (λ (b : Bool). ranged n b (ack-in bs)) y) ∙ sym (cond-true (counted 6 bs) (ranged n (eqb (getD bs 6 0) (after n i)) (ack-in bs)) (Err NotAFrame) c)))

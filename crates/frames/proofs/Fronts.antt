@@ -25,7 +25,7 @@ paste-next a ws vs n k e f =
     let p = take-at ws (drop n a) n e in
     let q = take-all k vs (omega arith) in
     let r : drop (n + k) (ws ++ drop n a) ≡ drop (n + k) a =
-        sym (drop-drop k n (ws ++ drop n a)) ∙ (ap (drop k) (drop-at ws (drop n a) n e) ∙ drop-drop k n a) in
+    sym (drop-drop k n (ws ++ drop n a)) ∙ (ap (drop k) (drop-at ws (drop n a) n e) ∙ drop-drop k n a) in
     rw (p, q, r)
 
 pub length-names : (ns : List Name) → length (joined name-bytes ns) ≡ 6 * length ns

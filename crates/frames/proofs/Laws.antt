@@ -72,8 +72,8 @@ reads-back n (ack-frame a) k ok =
     let c : counted 6 bs ≡ true = counted-ok 6 bs (omega arith) in
     let x : eqb (after n (a .issuer)) (after n (a .issuer)) ≡ true = eq-eqb (after n (a .issuer)) (after n (a .issuer)) refl in
     let d : ack-in bs ≡ ack-frame a =
-        ap (λ t. ack-frame (record { stamp = t; issuer = a .issuer; names = names-in (length ns) (joined name-bytes ns) })) (word-back (a .stamp) small)
-        ∙ ap (λ xs. ack-frame (record { stamp = a .stamp; issuer = a .issuer; names = xs })) (names-back n ns named) in
+    ap (λ t. ack-frame (record { stamp = t; issuer = a .issuer; names = names-in (length ns) (joined name-bytes ns) })) (word-back (a .stamp) small)
+    ∙ ap (λ xs. ack-frame (record { stamp = a .stamp; issuer = a .issuer; names = xs })) (names-back n ns named) in
     cond-true (counted 6 bs) (ranged n (eqb (after n (a .issuer)) (after n (a .issuer))) (ack-in bs)) (Err NotAFrame) c
     ∙ (ap (λ b. ranged n b (ack-in bs)) x ∙ (ap (ranged n true) d ∙ ranged-ok n (ack-frame a) ok))
 reads-back n (nack-frame f o t) k ok =
@@ -179,11 +179,11 @@ writes-back n bs f all e =
     let k = getD bs 0 0 in
     ⊎-elim
     (λ p. let q = lengthy (counted 1 bs) (ranged n true (data-in bs)) f (p .1) in
-        ranged-forth n true bs (data-in bs) f (q .1) (λ _. data-forth n bs all (eqb-true k 1 (p .0)) (counted-length 1 bs (q .0))))
+    ranged-forth n true bs (data-in bs) f (q .1) (λ _. data-forth n bs all (eqb-true k 1 (p .0)) (counted-length 1 bs (q .0))))
     (λ p. ⊎-elim
-        (λ q. let x = eqb (getD bs 6 0) (after n (getD bs 5 0)) in let r = lengthy (counted 6 bs) (ranged n x (ack-in bs)) f (q .1) in
-            ranged-forth n x bs (ack-in bs) f (r .1) (λ y. ack-forth n bs all (eqb-true k 2 (q .0)) (eqb-true (getD bs 6 0) (after n (getD bs 5 0)) y) (counted-length 6 bs (r .0))))
-        (λ q. let r = lengthy (eqb k 3) (read-nack n bs) f (q .1) in let s = lengthy (eqb (length bs) 7) (ranged n true (nack-in bs)) f (r .1) in
-            ranged-forth n true bs (nack-in bs) f (s .1) (λ _. nack-forth n bs all (eqb-true k 3 (r .0)) (eqb-true (length bs) 7 (s .0))))
-        (cond-cases (eqb k 2) (read-ack n bs) (cond (eqb k 3) (read-nack n bs) (Err NotAFrame)) (Ok f) (p .1)))
+    (λ q. let x = eqb (getD bs 6 0) (after n (getD bs 5 0)) in let r = lengthy (counted 6 bs) (ranged n x (ack-in bs)) f (q .1) in
+    ranged-forth n x bs (ack-in bs) f (r .1) (λ y. ack-forth n bs all (eqb-true k 2 (q .0)) (eqb-true (getD bs 6 0) (after n (getD bs 5 0)) y) (counted-length 6 bs (r .0))))
+    (λ q. let r = lengthy (eqb k 3) (read-nack n bs) f (q .1) in let s = lengthy (eqb (length bs) 7) (ranged n true (nack-in bs)) f (r .1) in
+    ranged-forth n true bs (nack-in bs) f (s .1) (λ _. nack-forth n bs all (eqb-true k 3 (r .0)) (eqb-true (length bs) 7 (s .0))))
+    (cond-cases (eqb k 2) (read-ack n bs) (cond (eqb k 3) (read-nack n bs) (Err NotAFrame)) (Ok f) (p .1)))
     (cond-cases (eqb k 1) (read-data n bs) (cond (eqb k 2) (read-ack n bs) (cond (eqb k 3) (read-nack n bs) (Err NotAFrame))) (Ok f) e)

@@ -69,8 +69,7 @@ pub read-more : (n i : ℕ) (bs : List ℕ) (x : Name) (xs : List Name) → xs �
 read-more n i bs x xs e ok r =
     let p = passed (name-ok n (name-in (drop (8 + 6 * i) bs))) _ x FieldOutOfRange r in
     let d = drop-drop (6 * i) 8 bs in
-    let y : name-in (drop (6 * i) (drop 8 bs)) ≡ x = ap name-in d ∙ sym (p .1) in
-    (
+    let y : name-in (drop (6 * i) (drop 8 bs)) ≡ x = ap name-in d ∙ sym (p .1) in (
       rw (e, add-one) (ap (λ (z : Name). names-in i (drop 8 bs) ++ z ∷ []) (sym y) ∙ sym (names-in-suc i (drop 8 bs))),
       rw add-one (names-hold n i (drop 8 bs) ok (ap (λ (zs : List ℕ). name-ok n (name-in zs)) d ∙ p .0)),
     )

@@ -1,13 +1,11 @@
 // Levels, names, frames and their bytes, and the refusals of the whole repository.
-pub mod refusal;
-pub mod types;
+pub mod frame;
 pub mod level;
 pub mod names;
-pub mod body;
-pub mod packet;
-pub mod write;
 pub mod read;
+pub mod refusal;
 pub mod show;
-
 #[cfg(test)]
 mod tests;
+pub mod types;
+pub mod write;

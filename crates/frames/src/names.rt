@@ -21,7 +21,11 @@ impl Name {
         ensures { λ r. ⌜ meant name-of r ≡ name-for (size .heads) (record { source = source; number = number; level = level }) ⌝ }
     {
         match Level::new(level, size) {
-            Ok(level) if source < size.heads && 1 <= number && number <= 500_000 => Ok(Name { source, number, level }),
+            Ok(level) if source < size.heads && 1 <= number && number <= 500_000 => Ok(Name {
+                source,
+                number,
+                level,
+            }),
             _ => Err(Refusal::FieldOutOfRange),
         }
     }
@@ -35,13 +39,20 @@ impl Name {
 }
 
 // Fills a place of Names that is not used.
-const UNUSED: Name = Name { source: 0, number: 1, level: Level { number: 0 } };
+const UNUSED: Name = Name {
+    source: 0,
+    number: 1,
+    level: Level { number: 0 },
+};
 
 impl Names {
     pub fn none() -> Names
         ensures { λ r. ⌜ names-of r ≡ [] ⌝ }
     {
-        Names { all: [UNUSED; 4], count: 0 }
+        Names {
+            all: [UNUSED; 4],
+            count: 0,
+        }
     }
 
     // One name more; false, and nothing changes, where there are four.

@@ -43,13 +43,21 @@ fn read_names(size: RingSize, bytes: &[u8], count: usize) -> Result<Names, Refus
 fn read_to(byte: u8) -> To
     ensures { λ r. ⌜ asked-of r ≡ asked-in byte ⌝ }
 {
-    if byte == 255 { To::Everyone } else { To::Head(byte) }
+    if byte == 255 {
+        To::Everyone
+    } else {
+        To::Head(byte)
+    }
 }
 
 fn ranged(size: RingSize, frame: Frame) -> Result<Frame, Refusal>
     ensures { λ r. ⌜ meant frame-of r ≡ ranged-by-rule (size .heads) true (frame-of frame) ⌝ }
 {
-    if frame.suits(size) { Ok(frame) } else { Err(Refusal::FieldOutOfRange) }
+    if frame.suits(size) {
+        Ok(frame)
+    } else {
+        Err(Refusal::FieldOutOfRange)
+    }
 }
 
 fn read_nack(size: RingSize, bytes: &[u8]) -> Result<Frame, Refusal>
@@ -59,7 +67,14 @@ fn read_nack(size: RingSize, bytes: &[u8]) -> Result<Frame, Refusal>
         return Err(Refusal::NotAFrame);
     }
     let stamp = u32::from_be_bytes([bytes[3], bytes[4], bytes[5], bytes[6]]);
-    ranged(size, Frame::Nack { from: bytes[1], to: read_to(bytes[2]), stamp })
+    ranged(
+        size,
+        Frame::Nack {
+            from: bytes[1],
+            to: read_to(bytes[2]),
+            stamp,
+        },
+    )
 }
 
 // Whether the bytes are eight and then as many items of this size as the eighth says.
@@ -96,7 +111,14 @@ fn read_ack(size: RingSize, bytes: &[u8]) -> Result<Frame, Refusal>
     }
     let stamp = u32::from_be_bytes([bytes[1], bytes[2], bytes[3], bytes[4]]);
     let names = read_names(size, bytes, count as usize)?;
-    ranged(size, Frame::Ack { stamp, issuer, names })
+    ranged(
+        size,
+        Frame::Ack {
+            stamp,
+            issuer,
+            names,
+        },
+    )
 }
 
 fn read_kind(size: RingSize, bytes: &[u8]) -> Result<Frame, Refusal>
@@ -116,7 +138,10 @@ pub fn read(size: RingSize, bytes: &[u8]) -> Result<Frame, Refusal>
     ensures answer { λ r. ⌜ meant frame-of r ≡ read-by-rule (size .heads) (now (bytes .entry)) ⌝ }
     ensures forth { λ r. ⌜ made r (λ f. written (size .heads) (frame-of f) ≡ now (bytes .entry)) ⌝ }
 {
-    if bytes.is_empty() { Err(Refusal::NotAFrame) } else { read_kind(size, bytes) }
+    match bytes {
+        [] => Err(Refusal::NotAFrame),
+        _ => read_kind(size, bytes),
+    }
 }
 
 // Writing and reading undo one another, for every frame and all bytes.

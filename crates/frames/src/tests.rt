@@ -28,8 +28,15 @@ fn writes(size: RingSize, frame: Frame, bytes: &[u8]) -> Result<(), Fail> {
 #[test]
 fn a_message_is_sent() -> Result<(), Fail> {
     let size = RingSize::new(3)?;
-    let frame = Frame::Data { name: first_name(size)?, body: Body::new(&[1])? };
-    writes(size, frame, &[0x01, 0x00, 0x00, 0x00, 0x00, 0x01, 0x00, 0x01, 0x01])
+    let frame = Frame::Data {
+        name: first_name(size)?,
+        body: Body::new(&[1])?,
+    };
+    writes(
+        size,
+        frame,
+        &[0x01, 0x00, 0x00, 0x00, 0x00, 0x01, 0x00, 0x01, 0x01],
+    )
 }
 
 #[test]
@@ -37,20 +44,54 @@ fn a_message_is_ordered() -> Result<(), Fail> {
     let size = RingSize::new(3)?;
     let mut names = Names::none();
     check(names.push(first_name(size)?))?;
-    let bytes = [0x02, 0x00, 0x00, 0x00, 0x01, 0x00, 0x01, 0x01, 0x00, 0x00, 0x00, 0x00, 0x01, 0x00];
-    writes(size, Frame::Ack { stamp: 1, issuer: 0, names }, &bytes)
+    let bytes = [
+        0x02,
+        0x00,
+        0x00,
+        0x00,
+        0x01,
+        0x00,
+        0x01,
+        0x01,
+        0x00,
+        0x00,
+        0x00,
+        0x00,
+        0x01,
+        0x00,
+    ];
+    writes(
+        size,
+        Frame::Ack {
+            stamp: 1,
+            issuer: 0,
+            names,
+        },
+        &bytes,
+    )
 }
 
 #[test]
 fn a_slot_is_asked_for() -> Result<(), Fail> {
     let size = RingSize::new(3)?;
-    writes(size, Frame::Nack { from: 2, to: To::Head(0), stamp: 2 }, &[0x03, 0x02, 0x00, 0x00, 0x00, 0x00, 0x02])
+    writes(
+        size,
+        Frame::Nack {
+            from: 2,
+            to: To::Head(0),
+            stamp: 2,
+        },
+        &[0x03, 0x02, 0x00, 0x00, 0x00, 0x00, 0x02],
+    )
 }
 
 #[test]
 fn next_follows_the_issuer() -> Result<(), Fail> {
     let bytes = [0x02, 0x00, 0x00, 0x00, 0x01, 0x00, 0x02, 0x00];
-    check_eq(read(RingSize::new(3)?, &bytes).err(), Some(Refusal::FieldOutOfRange))
+    check_eq(
+        read(RingSize::new(3)?, &bytes).err(),
+        Some(Refusal::FieldOutOfRange),
+    )
 }
 
 #[test]
@@ -60,7 +101,10 @@ fn levels_suit_the_ring() -> Result<(), Fail> {
     check_eq(Level::new(3, size).err(), Some(Refusal::BadLevel))?;
     check_eq(Level::named("Safe").err(), Some(Refusal::BadLevel))?;
     for (heads, others) in [(2, 1), (3, 1), (4, 2), (8, 4)] {
-        check_eq(Level::named("majority")?.needs(RingSize::new(heads)?), others)?;
+        check_eq(
+            Level::named("majority")?.needs(RingSize::new(heads)?),
+            others,
+        )?;
     }
     Ok(())
 }

@@ -58,9 +58,20 @@ pub enum To {
 
 #[derive(Clone, Copy)]
 pub enum Frame {
-    Data { name: Name, body: Body },
-    Ack { stamp: u32, issuer: u8, names: Names },
-    Nack { from: u8, to: To, stamp: u32 },
+    Data {
+        name: Name,
+        body: Body,
+    },
+    Ack {
+        stamp: u32,
+        issuer: u8,
+        names: Names,
+    },
+    Nack {
+        from: u8,
+        to: To,
+        stamp: u32,
+    },
 }
 
 // A frame's bytes, as a link carries them: the first len of 32. No frame is longer.

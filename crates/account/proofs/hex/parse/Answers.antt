@@ -30,13 +30,13 @@ loop-c-again c =
     let v = sym (c .in-Some .ensures tt .value) in
     elim (c .match-high .came) [
       | in-None w ↦
-        let e = left-opens xs text i (c .loop-c-test .taken) d b v ∙ (rw (w .in-None .is) at (c .loop-c .inv .0)) in
-        rw (w .bytes-is, w .high-is) (e, c .in-Some .ensures tt .bound)
+          let e = left-opens xs text i (c .loop-c-test .taken) d b v ∙ (rw (w .in-None .is) at (c .loop-c .inv .0)) in
+          rw (w .bytes-is, w .high-is) (e, c .in-Some .ensures tt .bound)
       | in-Some-high·in-Continue-push w ↦
-        let k = w .in-Some-high .h in
-        let p = w .in-Continue-push .ensures tt .items in
-        let e = left-closes xs text i (c .loop-c-test .taken) k d b v ∙ (rw (w .in-Some-high .is) at (c .loop-c .inv .0)) in
-        rw (w .bytes-is, w .high-is, p) (e, tt)
+          let k = w .in-Some-high .h in
+          let p = w .in-Continue-push .ensures tt .items in
+          let e = left-closes xs text i (c .loop-c-test .taken) k d b v ∙ (rw (w .in-Some-high .is) at (c .loop-c .inv .0)) in
+          rw (w .bytes-is, w .high-is, p) (e, tt)
     ]
 
 pub returns-then-is-some : need.returns-then-is-some

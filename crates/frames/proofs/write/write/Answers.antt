@@ -22,5 +22,5 @@ returns c =
       answer = write-goes n f _ _ l (omega arith) ok;
       after = c .write-front .ensures;
       back = λ _. ap (λ (o : List ℕ). read n (take (length (written n f)) o)) (c .write-front .ensures)
-        ∙ (ap (read n) (take-at (written n f) _ (length (written n f)) refl) ∙ reads-back n f (omega arith) ok);
+          ∙ (ap (read n) (take-at (written n f) _ (length (written n f)) refl) ∙ reads-back n f (omega arith) ok);
     }

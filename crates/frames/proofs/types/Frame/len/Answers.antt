@@ -17,7 +17,7 @@ returns-in-Ack c =
     let l = length-names-of ns in
     record {
       value = λ n.
-        let e : 8 + 6 * ns .count ≡ length (written n (frame-of (Ack (c .in-Ack .stamp) (c .in-Ack .issuer) ns))) = omega arith in
-        e ∙ sym (ap (λ (f : Frame). length (written n (frame-of f))) (c .in-Ack .is));
+          let e : 8 + 6 * ns .count ≡ length (written n (frame-of (Ack (c .in-Ack .stamp) (c .in-Ack .issuer) ns))) = omega arith in
+          e ∙ sym (ap (λ (f : Frame). length (written n (frame-of f))) (c .in-Ack .is));
       bound = omega (arith, ns .few);
     }
