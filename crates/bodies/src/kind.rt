@@ -113,8 +113,10 @@ pub fn encode<K: Kind>(value: &K) -> Result<Body, Refusal>
     ensures back { λ r. ⌜ made r (λ b. reads (body-of b) ≡ Ok (now (value .entry))) ⌝ }
 {
     let mut out = [0; 8];
-    let len = value.write(&mut out)?;
-    Body::new(&out[0..len])
+    match value.write(&mut out) {
+        Ok(len) => Body::new(&out[0..len]),
+        Err(_) => Err(Refusal::ValueOutOfRange),
+    }
 }
 
 // The value that the body says, where it is of this kind.

@@ -10,13 +10,13 @@ use Rattle.frames.proofs.Steps.{passed}
 use Rattle.bodies.proofs.Round.{body-of-front, read-back}
 use Rattle.bodies.proofs.kind.encode.Needs as need
 
-pub returns : need.returns
-returns g c =
+pub returns-in-Ok : need.returns-in-Ok
+returns-in-Ok g c =
     let x = c .args .value .now in
     let ok = g .K·Kind .good x in
     let bs = g .K·Kind .bytes x in
-    let w = c .in-Continue-len .ensures tt in
-    let p = passed ok (length bs) (c .in-Continue-len .len) ValueOutOfRange (w .answer) in
+    let w = c .in-Ok .ensures tt in
+    let p = passed ok (length bs) (c .in-Ok .len) ValueOutOfRange (w .answer) in
     let e = w .after ∙ cond-true ok (bs ++ drop (length bs) _) _ (p .0) in
     let r = body-of-front _ _ bs _ (c .new .result) (p .1) e (g .K·Kind·met .fits x) (c .new .ensures) in
     record {
