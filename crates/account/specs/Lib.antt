@@ -1,3 +1,4 @@
 pub mod Hex
+pub mod Pairs
 pub mod Lines
 pub mod Counts

@@ -6,6 +6,7 @@ ghost use Rattle.std.specs.Of.Vec.{vec-items};
 ghost use Rattle.std.specs.Options.{mapped, Cases as BySome};
 ghost use Rattle.std.specs.Vec.{made};
 ghost use Rattle.account.specs.Hex.{blank, digit-value, hex-bytes};
+ghost use Rattle.account.specs.Pairs.{whole};
 use std::alloc::AllocError;
 use std::alloc::Global;
 
@@ -27,12 +28,19 @@ fn digit(c: u8) -> Option<u8>
     }
 }
 
-// The bytes that pairs of digits write, blanks anywhere; None where the text is something else.
-pub fn parse(text: &[u8], heap: Global) -> Result<Option<Vec<u8>>, AllocError>
-    ensures { λ r. ⌜ made r (λ o. mapped vec-items o ≡ hex-bytes (now (text .entry))) ⌝ }
+// The bytes of pairs of digits, and a digit that still stands alone.
+#[derive(Drop)]
+struct Pairs {
+    bytes: Vec<u8>,
+    open: Option<u8>,
+}
+
+// Reads digits in pairs, blanks anywhere; None where something else stands.
+fn read_pairs(text: &[u8], heap: Global) -> Result<Option<Pairs>, AllocError>
+    ensures { λ r. ⌜ made r (λ o. whole o ≡ hex-bytes (now (text .entry))) ⌝ }
 {
     let mut bytes = Vec::new(heap);
-    let mut high: Option<u8> = None;
+    let mut open: Option<u8> = None;
     for c in text {
         if is_blank(*c) {
             continue;
@@ -40,15 +48,26 @@ pub fn parse(text: &[u8], heap: Global) -> Result<Option<Vec<u8>>, AllocError>
         let Some(d) = digit(*c) else {
             return Ok(None);
         };
-        match high {
-            None => high = Some(d),
+        match open {
+            None => open = Some(d),
             Some(h) => {
                 bytes.push(h * 16 + d)?;
-                high = None;
+                open = None;
             }
         }
     }
-    if high.is_some() {
+    Ok(Some(Pairs { bytes, open }))
+}
+
+// The bytes that the text writes; None where it is no base-sixteen text.
+pub fn parse(text: &[u8], heap: Global) -> Result<Option<Vec<u8>>, AllocError>
+    ensures { λ r. ⌜ made r (λ o. mapped vec-items o ≡ hex-bytes (now (text .entry))) ⌝ }
+{
+    let Some(found) = read_pairs(text, heap)? else {
+        return Ok(None);
+    };
+    let Pairs { bytes, open } = found;
+    if open.is_some() {
         return Ok(None);
     }
     Ok(Some(bytes))
