@@ -1,0 +1,10 @@
+pub mod Ways
+pub mod Walk
+pub mod Names
+pub mod Slots
+pub mod Pending
+pub mod Marks
+pub mod Upkeep
+pub mod Rising
+pub mod Ranges
+pub mod Worked

@@ -1,0 +1,16 @@
+pub mod Slots
+pub mod Queue
+pub mod Head
+pub mod Answers
+pub mod Upkeep
+pub mod Submit
+pub mod Hear
+pub mod Turn
+pub mod Tick
+pub mod Deliver
+pub mod Questions
+pub mod Rising
+pub mod Ranges
+pub mod Cases
+pub mod Runs
+pub mod Samples

@@ -1,0 +1,2 @@
+// The ring of probe heads and what holds of it.
+pub mod law;
