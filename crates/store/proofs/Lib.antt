@@ -1,0 +1,9 @@
+pub mod View
+pub mod Walks
+pub mod Naming
+pub mod Windows
+pub mod Placing
+pub mod Filling
+pub mod Settling
+pub mod Starting
+pub mod Looking
