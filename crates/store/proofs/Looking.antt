@@ -26,27 +26,12 @@ use Rattle.store.specs.declared.types.Queue.{Queue as CQueue}
 use Rattle.store.specs.declared.types.Frames.{Frames}
 use Rattle.store.specs.Parts.{slot-of, queue-of}
 use Rattle.store.specs.Puts.{puts-of}
+use Rattle.store.proofs.View.{queue-read}
 
 -- the slot at a stamp
 
-slot-in : (b : ℕ) (ss : List CSlot) (s i : ℕ) → s ≡ b + i → queue-of b ss s ≡ slot-of (getD ss i Unknown)
-unfolding queue-of
-slot-in b ss s i e =
-    let j : s - b ≡ i = omega arith in
-    cond-true (leb b s) (slot-of (getD ss (s - b) Unknown)) unknown (le-leb b s (omega arith)) ∙ ap (λ k. slot-of (getD ss k Unknown)) j
-
-pub slot-below : (b : ℕ) (ss : List CSlot) (s : ℕ) → s < b → queue-of b ss s ≡ unknown
-unfolding queue-of
-slot-below b ss s h = cond-false (leb b s) (slot-of (getD ss (s - b) Unknown)) unknown (lt-leb b s h)
-
-pub slot-past : (b : ℕ) (ss : List CSlot) (s : ℕ) → b + length ss ≤ s → queue-of b ss s ≡ unknown
-slot-past b ss s h = slot-in b ss s (s - b) (omega arith) ∙ ap slot-of (getD-past ss (s - b) Unknown (omega arith))
-
-pub slot-read : (b : ℕ) (ss : List CSlot) (i : ℕ) (z : CSlot) → i < length ss → queue-of b ss (b + i) ≡ slot-of (getD ss i z)
-slot-read b ss i z h = slot-in b ss (b + i) i refl ∙ ap slot-of (getD-default ss i Unknown z h)
-
 pub ack-read : (q : CQueue) (i g : ℕ) (ns : Names) (z : CSlot) → i < 96 → getD (q .slots) i z ≡ CAck g ns → queue-of (q .base) (q .slots) (q .base + i) ≡ ack g (names-of ns)
-ack-read q i g ns z h e = let f = q .places in slot-read (q .base) (q .slots) i z (omega arith) ∙ ap slot-of e
+ack-read q i g ns z h e = let f = q .places in queue-read (q .base) (q .slots) i z (omega arith) ∙ ap slot-of e
 
 other-slot : (x : CSlot) → ((g : ℕ) (ns : Names) → x ≡ CAck g ns → ⊥) → is-ack (slot-of x) ≡ false
 other-slot Unknown h = refl
@@ -55,7 +40,7 @@ other-slot (Data x None) h = refl
 other-slot (Data x (Some b)) h = refl
 
 pub other-read : (q : CQueue) (i : ℕ) (z : CSlot) → i < 96 → ((g : ℕ) (ns : Names) → getD (q .slots) i z ≡ CAck g ns → ⊥) → is-ack (queue-of (q .base) (q .slots) (q .base + i)) ≡ false
-other-read q i z h e = let f = q .places in ap is-ack (slot-read (q .base) (q .slots) i z (omega arith)) ∙ other-slot (getD (q .slots) i z) e
+other-read q i z h e = let f = q .places in ap is-ack (queue-read (q .base) (q .slots) i z (omega arith)) ∙ other-slot (getD (q .slots) i z) e
 
 -- an ACK, or something else, at the last of k stamps
 
