@@ -4,3 +4,4 @@ pub mod Starting
 pub mod Submitting
 pub mod Placing
 pub mod Hearing
+pub mod Nacks

@@ -1,21 +1,27 @@
-// Hearing Data and ACK frames: the first rule that applies decides.
+// Hearing a packet: its kind decides, and then the first rule that applies.
 ghost use mathlib.Core.Path.{_≡_};
-ghost use mathlib.Core.Bool.{true};
+ghost use mathlib.Core.Bool.{true, not, _&&_};
+ghost use lib.Dec.{eqb};
 ghost use Prim.Native.Nat.{ℕ, suc, _+_, _<_, _≤_};
-ghost use Rattle.frames.specs.Types.{name-of, message-of};
+ghost use Rattle.std.specs.declared.option.Option.the-variants.{Some};
+ghost use Rattle.std.specs.declared.result.Result.the-variants.{Ok};
+ghost use Rattle.frames.specs.Types.{name-of, message-of, asked-of};
 ghost use Rattle.head.specs.Slots.{named};
 ghost use Rattle.head.specs.Queue.{names-it, all-unknown};
 ghost use Rattle.head.specs.Head.{place as m-place};
-ghost use Rattle.head.specs.Hear.{hear-slot, hear-unslotted, hear-data as m-hear-data, hear-ack as m-hear-ack};
+ghost use Rattle.head.specs.Hear.{hear-slot, hear-unslotted, hear-data as m-hear-data, hear-ack as m-hear-ack, hear-nack as m-hear-nack, hear as m-hear, asks};
 ghost use Rattle.store.specs.Parts.{ack-of, spans, Own-ack};
 ghost use Rattle.calls.specs.Model.{model};
 ghost use Rattle.calls.specs.Answers.{heard-before, heard-after};
 use crate::answers::Heard;
 use crate::head::Head;
+use frames::read::read;
 use frames::refusal::Refusal;
 use frames::types::Body;
+use frames::types::Frame;
 use frames::types::Name;
 use frames::types::Names;
+use frames::types::To;
 use store::same::is_body;
 use store::same::is_list;
 use store::types::Slot;
@@ -159,5 +165,53 @@ impl Head {
         let answer = self.take_ack(stamp, issuer, names)?;
         self.settle();
         Ok(answer)
+    }
+
+    // A NACK from another head asks this one.
+    fn is_asked(&self, from: u8, to: To) -> bool
+        ensures { λ r. ⌜ r ≡ (asks (asked-of to) (now (self .entry) .me) && not (eqb from (now (self .entry) .me))) ⌝ }
+    {
+        match to {
+            To::Head(head) => head == self.me && from != self.me,
+            To::Everyone => from != self.me,
+        }
+    }
+
+    // A NACK, before the upkeep: the frame of a full slot is put again.
+    fn take_nack(&self, from: u8, to: To, stamp: u32) -> Heard
+        ensures { λ r. ⌜ heard-before (now (self .entry) .size .heads) (Ok r) (model (now (self .entry))) ≡ m-hear-nack (now (self .entry) .size .heads) from (asked-of to) stamp (model (now (self .entry))) ⌝ }
+    {
+        if !self.is_asked(from, to) || stamp < self.queue.base {
+            return Heard::Nothing;
+        }
+        match self.queue.frame_at(stamp) {
+            Some(frame) => Heard::Resent { frame },
+            None => Heard::Nothing,
+        }
+    }
+
+    fn hear_nack(&mut self, from: u8, to: To, stamp: u32) -> Heard
+        ensures size { λ _. ⌜ now (self .exit) .size ≡ now (self .entry) .size ⌝ }
+        ensures after { λ r. ⌜ heard-after (Ok r) (model (now (self .exit))) ≡ m-hear-nack (now (self .entry) .size .heads) from (asked-of to) stamp (model (now (self .entry))) ⌝ }
+    {
+        let answer = self.take_nack(from, to, stamp);
+        self.settle();
+        answer
+    }
+
+    // The bytes of a packet: what they are decides, and within its kind the first rule that applies.
+    pub fn hear(&mut self, bytes: &[u8]) -> Result<Heard, Refusal>
+        ensures size { λ _. ⌜ now (self .exit) .size ≡ now (self .entry) .size ⌝ }
+        ensures after { λ r. ⌜ heard-after r (model (now (self .exit))) ≡ m-hear (now (self .entry) .size .heads) (Some (now (bytes .entry))) (model (now (self .entry))) ⌝ }
+    {
+        match read(self.size, bytes)? {
+            Frame::Data { name, body } => self.hear_data(name, body),
+            Frame::Ack {
+                stamp,
+                issuer,
+                names,
+            } => self.hear_ack(stamp, issuer, names),
+            Frame::Nack { from, to, stamp } => Ok(self.hear_nack(from, to, stamp)),
+        }
     }
 }
