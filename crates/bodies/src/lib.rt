@@ -1,4 +1,6 @@
 // The kinds of body: readings, doors and set points.
+#![tactic(auto)]
+
 pub mod kind;
 mod measure;
 pub mod values;

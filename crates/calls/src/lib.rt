@@ -1,4 +1,6 @@
 // The calls on one head, each as the model has it.
+#![tactic(auto)]
+
 pub mod answers;
 pub mod check;
 pub mod choose;

@@ -87,8 +87,8 @@ spelt (suc k) i bs h =
 
 byte_at : (bs : List ℕ) → All Byte bs → (i : ℕ) → get_or bs i 0 < 256
 byte_at [] all i = omega arith
-byte_at (b ∷ bs) all zero = all.0
-byte_at (b ∷ bs) all (suc i) = byte_at bs all.1 i
+byte_at (b ∷ bs) all zero = all 0 0 (omega arith)
+byte_at (b ∷ bs) all (suc i) = byte_at bs (λ k d h. all (suc k) d (omega arith)) i
 
 cond_cases : {A : Type 0} (b : Bool) (x y z : A) → cond b x y ≡ z → ((b ≡ true) × (x ≡ z)) ⊎ ((b ≡ false) × (y ≡ z))
 cond_cases true x y z e = inl (refl, e)

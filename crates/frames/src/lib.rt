@@ -1,4 +1,6 @@
 // Levels, names, frames and their bytes, and the refusals of the whole repository.
+#![tactic(auto)]
+
 pub mod frame;
 pub mod level;
 pub mod names;

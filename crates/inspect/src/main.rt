@@ -1,4 +1,6 @@
 // Reads frames as base-sixteen text, one to a line, and prints what each is in a van of so many heads.
+#![tactic(auto)]
+
 use account::line::Line;
 use account::show::Entry;
 use account::tally::Tally;

@@ -1,4 +1,6 @@
 // Runs calls on wire, air and a hoard, one to a line, and prints what each take and pass answers.
+#![tactic(auto)]
+
 ghost use Rattle.std.specs.Prelude.{◌≡◌, take};
 ghost use Rattle.frames.specs.Types.{packet_of};
 

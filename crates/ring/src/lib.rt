@@ -1,4 +1,6 @@
 // The ring of probe heads and what holds of it.
+#![tactic(auto)]
+
 pub mod ask;
 pub mod docked;
 pub mod law;

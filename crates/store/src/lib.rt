@@ -1,4 +1,6 @@
 // What a head keeps, in fixed tables, and the steps of its calls on them.
+#![tactic(auto)]
+
 pub mod fill;
 pub mod find;
 pub mod fresh;

@@ -6,13 +6,13 @@ use Rattle.account.proofs.hex.read_pairs.Goals.{in-None, in-Some-open+in-ok-push
 pub loop-c-init : goal.loop-c-init
 loop-c-init c = (ap (λ (xs : List ℕ). left xs None c.args.text.now 0) c.new-bytes.ensures.items ∙ left_start c.args.text.now, tt)
 
-pub loop-c-preserved-then-is-blank : goal.loop-c-preserved-then-is-blank
-loop-c-preserved-then-is-blank c =
-    (left_blank _ c.args.text.now c.loop-c.c-index c.loop-c-test.true c.loop-c.«open» (sym c.if-is-blank.ensures) ∙ c.loop-c.invariant.0, c.loop-c.invariant.1)
+pub loop-c-preserved-then-is_blank : goal.loop-c-preserved-then-is_blank
+loop-c-preserved-then-is_blank c =
+    (left_blank _ c.args.text.now c.loop-c.c-index c.loop-c-test.true c.loop-c.«open» (sym c.if-is_blank.ensures) ∙ c.loop-c.invariant.0, c.loop-c.invariant.1)
 
-pub returns-in-default : goal.returns-in-default
-returns-in-default c =
-    sym (left_stops _ c.args.text.now c.loop-c.c-index c.loop-c-test.true c.loop-c.«open» (sym c.if-is-blank.ensures) (sym c.in-default.ensures.value)) ∙ c.loop-c.invariant.0
+pub returns-in_default : goal.returns-in_default
+returns-in_default c =
+    sym (left_stops _ c.args.text.now c.loop-c.c-index c.loop-c-test.true c.loop-c.«open» (sym c.if-is_blank.ensures) (sym c.in_default.ensures.value)) ∙ c.loop-c.invariant.0
 
 pub loop-c-preserved : goal.loop-c-preserved
 loop-c-preserved c =
@@ -20,7 +20,7 @@ loop-c-preserved c =
     let i = c.loop-c.c-index in
     let xs = vec_items c.loop-c.bytes in
     let d = c.in-Some.d in
-    let b = sym c.if-is-blank.ensures in
+    let b = sym c.if-is_blank.ensures in
     let v = sym c.in-Some.ensures.value in
     elim c.match-open.branch [
       | in-None w ↦
@@ -28,7 +28,7 @@ loop-c-preserved c =
           rw (w.bytes-is, w.open-is) (e, c.in-Some.ensures.bound)
       | in-Some-open+in-ok-push w ↦
           let k = w.in-Some-open.h in
-          let p = w.in-ok-push.ensures.items in
+          let p = w.in_ok-push.ensures.items in
           let e = left_closes xs text i c.loop-c-test.true k d b v ∙ (rw w.in-Some-open.is at c.loop-c.invariant.0) in
           rw (w.bytes-is, w.open-is, p) (e, tt)
     ]

@@ -13,10 +13,10 @@ returns c =
     let f = frame_of c.args.frame in
     let k = c.len-len.result in
     let m = c.args.size.most in
-    let w : take k c.write-front.new.out ≡ written n f = ap (take k) c.write-front.ensures ∙ take_at (written n f) _ k (sym (c.len-len.ensures.value n)) in
+    let w : take k c.write_front.new.out ≡ written n f = ap (take k) c.write_front.ensures ∙ take_at (written n f) _ k (sym (c.len-len.ensures.value n)) in
     let l = c.len-len.ensures.value n in
     record {
       bytes = w;
-      rest = rw l (ap (drop (length (written n f))) c.write-front.ensures ∙ blank_past 32 (length (written n f)) (written n f) refl);
+      rest = rw l (ap (drop (length (written n f))) c.write_front.ensures ∙ blank_past 32 (length (written n f)) (written n f) refl);
       back = ap (read n) w ∙ reads_back n f (omega arith) c.requires;
     }

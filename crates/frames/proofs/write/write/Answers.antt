@@ -16,7 +16,7 @@ returns c =
     let ok = sym c.if-not-suits.ensures in
     record {
       answer = write_goes n f _ _ l (omega arith) ok;
-      after = c.write-front.ensures;
-      back = λ _. ap (λ (o : List ℕ). read n (take (length (written n f)) o)) c.write-front.ensures
+      after = c.write_front.ensures;
+      back = λ _. ap (λ (o : List ℕ). read n (take (length (written n f)) o)) c.write_front.ensures
           ∙ (ap (read n) (take_at (written n f) _ (length (written n f)) refl) ∙ reads_back n f (omega arith) ok);
     }

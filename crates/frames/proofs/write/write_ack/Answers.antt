@@ -17,14 +17,14 @@ loop-i-preserved c =
     let l = length_names_of ns in
     let z = c.index-names-i.result in
     names_step _ _ _ (names_of ns) i (name_of z) (omega arith) (omega arith) c.loop-i.invariant
-    (c.write-name.ensures ∙ ap (λ (x : Name). paste c.loop-i.out (8 + 6 * i) (name_bytes x) 6) (sym (named_at ns i z (omega arith))))
+    (c.write_name.ensures ∙ ap (λ (x : Name). paste c.loop-i.out (8 + 6 * i) (name_bytes x) 6) (sym (named_at ns i z (omega arith))))
 
 pub returns : goal.returns
 returns c =
     let ns = c.args.names in
     let out = c.args.out.now in
     let front : ℕ → List ℕ = λ z. 2 ∷ word_then c.args.stamp (c.args.issuer ∷ after c.args.size.heads c.args.issuer ∷ z ∷ []) in
-    let e : c.put.new.out ≡ front ns.count ++ drop 8 out = simp (c.put.ensures, c.to-be-bytes-b.ensures) in
+    let e : c.put.new.out ≡ front ns.count ++ drop 8 out = simp (c.put.ensures, c.to_be_bytes-b.ensures) in
     let l = length_names_of ns in
     let k = length_names (names_of ns) in
     let i : c.loop-i.i ≡ ns.count = omega arith in

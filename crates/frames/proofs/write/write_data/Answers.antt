@@ -11,7 +11,7 @@ returns c n =
     let b = c.args.body in
     let out = c.args.out.now in
     let front : ℕ → List ℕ = λ z. 1 ∷ name_then (name_of c.args.name) (z ∷ []) in
-    let e : c.put.new.out ≡ front b.len ++ drop 8 out = simp (c.put.ensures, c.to-be-bytes-number.ensures) in
+    let e : c.put.new.out ≡ front b.len ++ drop 8 out = simp (c.put.ensures, c.to_be_bytes-number.ensures) in
     subst
     (λ z. c.put-2.new.out ≡ (front z ++ body_of b) ++ drop (length (front z ++ body_of b)) out)
     (sym (length_body_of b))

@@ -9,8 +9,8 @@ use Rattle.frames.proofs.Fronts.{length_names}
 use Rattle.frames.proofs.Naming.{length_names_of, issuer_small}
 use Rattle.frames.proofs.write.write_front.Goals as goal
 
-pub write-ack-requires : goal.write-ack-requires
-write-ack-requires c =
+pub write_ack-requires : goal.write_ack-requires
+write_ack-requires c =
     let n = c.args.size.heads in
     let ns = c.in-Ack.names in
     let f = Ack c.in-Ack.stamp c.in-Ack.issuer ns in
@@ -25,7 +25,7 @@ same : (n : ℕ) (out o : List ℕ) (f g : Frame) → f ≡ g → o ≡ front_wr
 same n out o f g e w = w ∙ sym (ap (λ (h : Frame). front_written n (frame_of h) out) e)
 
 pub returns-in-Data : goal.returns-in-Data
-returns-in-Data c = same c.args.size.heads c.args.out.now _ _ _ c.in-Data.is (c.write-data.ensures c.args.size.heads)
+returns-in-Data c = same c.args.size.heads c.args.out.now _ _ _ c.in-Data.is (c.write_data.ensures c.args.size.heads)
 
 pub returns-in-Nack : goal.returns-in-Nack
-returns-in-Nack c = same c.args.size.heads c.args.out.now _ _ _ c.in-Nack.is (c.write-nack.ensures c.args.size.heads)
+returns-in-Nack c = same c.args.size.heads c.args.out.now _ _ _ c.in-Nack.is (c.write_nack.ensures c.args.size.heads)

@@ -7,4 +7,4 @@ pub returns-then-tries-size : goal.returns-then-tries-size
 returns-then-tries-size c h mine tried last = asked_all c.args.size.heads h (top_of c.args.top) c.args.me c.args.tries mine tried last (omega arith)
 
 pub returns : goal.returns
-returns c h mine tried last = asked_one c.args.size.heads h (top_of c.args.top) c.args.me c.args.tries mine tried last _ _ (omega arith) c.issuer-of-issuer.ensures c.another.ensures
+returns c h mine tried last = asked_one c.args.size.heads h (top_of c.args.top) c.args.me c.args.tries mine tried last _ _ (omega arith) c.issuer_of-issuer.ensures c.another.ensures

@@ -12,11 +12,11 @@ returns-then-a-b c = sym (same_length (names_of c.args.a) (names_of c.args.b) (�
 pub loop-i-init : goal.loop-i-init
 loop-i-init c = λ j. same_names (from_all c.args.a j) (from_all c.args.b j)
 
-pub returns-then-not-is-name : goal.returns-then-not-is-name
-returns-then-not-is-name c = same_fail c.args.a c.args.b c.loop-i.i _ _ (omega arith) (omega arith) (sym c.if-not-is-name.ensures) ∙ c.loop-i.invariant
+pub returns-then-not-is_name : goal.returns-then-not-is_name
+returns-then-not-is_name c = same_fail c.args.a c.args.b c.loop-i.i _ _ (omega arith) (omega arith) (sym c.if-not-is_name.ensures) ∙ c.loop-i.invariant
 
 pub loop-i-preserved : goal.loop-i-preserved
-loop-i-preserved c = same_more c.args.a c.args.b c.loop-i.i _ _ (omega arith) (omega arith) (sym c.if-not-is-name.ensures) ∙ c.loop-i.invariant
+loop-i-preserved c = same_more c.args.a c.args.b c.loop-i.i _ _ (omega arith) (omega arith) (sym c.if-not-is_name.ensures) ∙ c.loop-i.invariant
 
 pub returns : goal.returns
 returns c =

@@ -8,15 +8,15 @@ use Rattle.calls.proofs.head.Head.any_bad.Goals as goal
 pub loop-i-init : goal.loop-i-init
 loop-i-init c = ap (bad_names (model c.args.self.now)) (from_all c.args.names)
 
-pub returns-then-is-bad : goal.returns-then-is-bad
-returns-then-is-bad c =
+pub returns-then-is_bad : goal.returns-then-is_bad
+returns-then-is_bad c =
     let h = model c.args.self.now in
-    any_hit (bad_names h) (λ x _. bad_name h x) (λ _ _. refl) c.args.names c.loop-i.i _ (omega arith) (sym c.if-is-bad.ensures) ∙ c.loop-i.invariant
+    any_hit (bad_names h) (λ x _. bad_name h x) (λ _ _. refl) c.args.names c.loop-i.i _ (omega arith) (sym c.if-is_bad.ensures) ∙ c.loop-i.invariant
 
 pub loop-i-preserved : goal.loop-i-preserved
 loop-i-preserved c =
     let h = model c.args.self.now in
-    any_miss (bad_names h) (λ x _. bad_name h x) (λ _ _. refl) c.args.names c.loop-i.i _ (omega arith) (sym c.if-is-bad.ensures) ∙ c.loop-i.invariant
+    any_miss (bad_names h) (λ x _. bad_name h x) (λ _ _. refl) c.args.names c.loop-i.i _ (omega arith) (sym c.if-is_bad.ensures) ∙ c.loop-i.invariant
 
 pub returns : goal.returns
 returns c = any_end (bad_names (model c.args.self.now)) c.args.names c.loop-i.i refl (omega arith) ∙ c.loop-i.invariant

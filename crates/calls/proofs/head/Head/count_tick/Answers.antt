@@ -34,4 +34,4 @@ returns c =
     let w = c.wait.ensures in
     let m = c.mark-stamp.ensures in
     let e = c.end.ensures.value in
-    record { size = c.pass-token.ensures.size; after = c.pass-token.ensures.after ∙ sym (tick_passes x.size.heads (model x) (omega arith) (omega arith)) }
+    record { size = c.pass_token.ensures.size; after = c.pass_token.ensures.after ∙ sym (tick_passes x.size.heads (model x) (omega arith) (omega arith)) }

@@ -12,8 +12,8 @@ pub returns : goal.returns
 unfolding deliver
 returns c =
     let x = c.args.self.now in
-    let p = c.pass-acks.ensures in
-    let o = c.hand-over-answer.ensures in
+    let p = c.pass_acks.ensures in
+    let o = c.hand_over-answer.ensures in
     let s = c.settle.ensures in
     let d = c.new.ensures in
     let size = o.size ∙ p.size in
@@ -21,7 +21,7 @@ returns c =
       size = s.size ∙ size;
       after =
           did_as handed c.new.result (model c.settle.new.self) _ _ d.answer d.puts d.issued
-          ∙ ((λ j. record { answer = handed c.hand-over-answer.result; head = s.after j; puts = []; issued = None })
-          ∙ (ap (λ (z : RingSize). done z.heads (handed c.hand-over-answer.result) (model c.hand-over-answer.new.self) []) o.size
+          ∙ ((λ j. record { answer = handed c.hand_over-answer.result; head = s.after j; puts = []; issued = None })
+          ∙ (ap (λ (z : RingSize). done z.heads (handed c.hand_over-answer.result) (model c.hand_over-answer.new.self) []) o.size
           ∙ (o.after ∙ ((λ j. hand_over (p.size j).heads (p.after j) ((p.after j).queue (p.after j).due))))));
     }

@@ -9,4 +9,4 @@ pub returns : goal.returns
 returns c =
     let x = c.args.self.now in
     let r : c.if-self-lt15.self ≡ min 15 (suc x.tries) = elim c.if-self-lt15.branch [ then-self-lt15 w ↦ omega (arith, w.self-is) | else-self-lt15 w ↦ omega (arith, w.self-is) ] in
-    record { size = refl; after = fire_as x.size.heads (model x) c.of-puts.result (put_of c.args.nack) _ _ _ c.of-puts.ensures c.own-top.ensures c.lowest_own.ensures r }
+    record { size = refl; after = fire_as x.size.heads (model x) c.of-puts.result (put_of c.args.nack) _ _ _ c.of-puts.ensures c.own_top.ensures c.lowest_own.ensures r }

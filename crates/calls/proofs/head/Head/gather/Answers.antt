@@ -18,7 +18,7 @@ loop-preserved c =
     let i = c.loop.counter in
     let s = c.loop.source in
     let some : 0 < n = omega arith in
-    (gather_goes_on n x (n - i) (n - (i + 1)) s (names_of c.loop.names) _ (omega arith) c.add-run.ensures ∙ c.loop.invariant.0, mod-lt (s + 1) some)
+    (gather_goes_on n x (n - i) (n - (i + 1)) s (names_of c.loop.names) _ (omega arith) c.add_run.ensures ∙ c.loop.invariant.0, mod-lt (s + 1) some)
 
 pub returns : goal.returns
 returns c =

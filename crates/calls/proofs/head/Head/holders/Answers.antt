@@ -23,17 +23,17 @@ returns-in-Data c =
     let n = x.size.heads in
     let s = c.args.stamp in
     let e = asked_data n x s c.in-Data.name c.in-Data.body (ap slot_of (sym c.in-Data.is) ∙ c.at-slot.ensures) in
-    let m = c.mark-holders.ensures in
+    let m = c.mark_holders.ensures in
     let long = c.if-scratch-lt96.false in
     record {
       answer = ap {B = Result _ Refusal} Ok (c.holders.ensures.value (model x) (keeps x)) ∙ long_answer n (model x) s c.args.scratch.now _ long e;
-      after = m.after (model x) (keeps x) ∙ (cond-true c.mark-holders.result _ _ (m.answer ∙ le-leb 96 _ long) ∙ long_scratch n (model x) s c.args.scratch.now _ long e);
+      after = m.after (model x) (keeps x) ∙ (cond-true c.mark_holders.result _ _ (m.answer ∙ le-leb 96 _ long) ∙ long_scratch n (model x) s c.args.scratch.now _ long e);
     }
 
-pub returns-in-default : goal.returns-in-default
-returns-in-default c =
+pub returns-in_default : goal.returns-in_default
+returns-in_default c =
     let x = c.args.self.now in
     let n = x.size.heads in
     let s = c.args.stamp in
-    let e = asked_other n x s c.at-slot.result c.in-default.not-Data c.at-slot.ensures in
+    let e = asked_other n x s c.at-slot.result c.in_default.not-Data c.at-slot.ensures in
     record { answer = long_answer n (model x) s c.args.scratch.now _ c.if-scratch-lt96.false e; after = long_scratch n (model x) s c.args.scratch.now _ c.if-scratch-lt96.false e }

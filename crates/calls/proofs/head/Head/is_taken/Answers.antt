@@ -11,4 +11,4 @@ returns c =
     let q : Queue = queue_of x.queue.base x.queue.slots in
     let l = length_names_of c.args.names in
     let f : c.args.names.count + 1 ≡ suc (length (names_of c.args.names)) = omega arith in
-    ap not (c.is-free.ensures ∙ (λ j. all_unknown q (f j) c.args.stamp))
+    ap not (c.is_free.ensures ∙ (λ j. all_unknown q (f j) c.args.stamp))

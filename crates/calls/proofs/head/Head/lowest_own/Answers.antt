@@ -15,7 +15,7 @@ pub loop-place-preserved : goal.loop-place-preserved
 loop-place-preserved c =
     let x = c.args.self.now in
     let i = c.loop-place.place in
-    own_later x (4 - i) (4 - (i + 1)) _ _ (omega arith) (omega arith) (sym c.in-default.ensures) ∙ c.loop-place.invariant
+    own_later x (4 - i) (4 - (i + 1)) _ _ (omega arith) (omega arith) (sym c.in_default.ensures) ∙ c.loop-place.invariant
 
 pub returns : goal.returns
 returns c =

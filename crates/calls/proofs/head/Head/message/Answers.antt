@@ -4,15 +4,15 @@ use Rattle.calls.specs.Choice.{kept_under}
 use Rattle.calls.proofs.Gathering.{kept_read, kept_small}
 use Rattle.calls.proofs.head.Head.message.Goals as goal
 
-pub overflow-add-number-in-Some : goal.overflow-add-number-in-Some
+pub overflow_add-number-in-Some : goal.overflow_add-number-in-Some
 unfolding table_of
-overflow-add-number-in-Some c =
+overflow_add-number-in-Some c =
     let x = c.args.self.now in
     let k = kept_small x.inbox c.args.source c.args.place _ _ _ c.requires.head c.requires.near x.numbered c.in-Some.is in omega arith
 
-pub invariant-of-name : goal.invariant-of-name
+pub invariant_of-name : goal.invariant_of-name
 unfolding table_of
-invariant-of-name c =
+invariant_of-name c =
     let x = c.args.self.now in
     let k = kept_small x.inbox c.args.source c.args.place _ _ _ c.requires.head c.requires.near x.numbered c.in-Some.is in
     (c.requires.head, (omega arith, (k, tt)))

@@ -7,8 +7,8 @@ use Rattle.head.proofs.Names.{highest_false}
 use Rattle.calls.proofs.Starting.{head_made}
 use Rattle.calls.proofs.head.Head.new.Goals as goal
 
-pub invariant-of-result : goal.invariant-of-result
-invariant-of-result c =
+pub invariant_of-result : goal.invariant_of-result
+invariant_of-result c =
     let e = c.new_queue.ensures in
     let i = c.new-inbox.ensures in
     let b = c.new_queue.result.base in (
@@ -42,4 +42,4 @@ unfolding fresh
 returns c =
     let e = c.new_queue.ensures in
     let i = c.new-inbox.ensures in
-    head_made c.args.heads c.args.me _ _ c.in-ok-size.ensures (omega arith) (λ j. record { me = c.args.me; made = 0; base = e.base j; queue = e.slots j; gone = e.gone j; pending = i.pending j; due = 1; ticks = 0; tries = 0 })
+    head_made c.args.heads c.args.me _ _ c.in_ok-size.ensures (omega arith) (λ j. record { me = c.args.me; made = 0; base = e.base j; queue = e.slots j; gone = e.gone j; pending = i.pending j; due = 1; ticks = 0; tries = 0 })

@@ -7,8 +7,8 @@ use Rattle.calls.proofs.Pendings.{most_less}
 use Rattle.calls.proofs.Placing.{code_placed, code_ends, code_own, code_passed, code_low}
 use Rattle.calls.proofs.head.Head.place.Goals as goal
 
-pub invariant-of-self : goal.invariant-of-self
-invariant-of-self c =
+pub invariant_of-self : goal.invariant_of-self
+invariant_of-self c =
     let x = c.args.self.now in
     let q = c.lay.new.self in
     let l = c.lows-low.result in

@@ -9,8 +9,8 @@ returns c =
     let e = c.give_up.ensures in
     record { size = refl; after = e.after (model x) ∙ cond-true c.give_up.result _ _ (e.answer ∙ le-leb x.due 1000001 x.range.1) }
 
-pub invariant-of-self : goal.invariant-of-self
-invariant-of-self c =
+pub invariant_of-self : goal.invariant_of-self
+invariant_of-self c =
     let x = c.args.self.now in
     let e = c.give_up.ensures in (
       x.member,

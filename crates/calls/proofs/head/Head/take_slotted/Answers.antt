@@ -10,18 +10,18 @@ returns-then-name-x c =
     let x = c.args.self.now in
     record { size = refl; after = heard_other x.size.heads x c.args.i (message_of c.args.name c.args.body) c.index-self-i.result c.requires.place c.in-Data.x c.in-Data.had c.in-Data.is c.if-name-x.true }
 
-pub returns-then-is-body : goal.returns-then-is-body
-returns-then-is-body c =
+pub returns-then-is_body : goal.returns-then-is_body
+returns-then-is_body c =
     let x = c.args.self.now in
-    record { size = refl; after = heard_whole x.size.heads x c.args.i (message_of c.args.name c.args.body) c.index-self-i.result c.requires.place c.in-Data.x c.in-Data.had c.in-Some.b true c.in-Data.is c.in-Some.is (omega arith) c.if-is-body.ensures }
+    record { size = refl; after = heard_whole x.size.heads x c.args.i (message_of c.args.name c.args.body) c.index-self-i.result c.requires.place c.in-Data.x c.in-Data.had c.in-Some.b true c.in-Data.is c.in-Some.is (omega arith) c.if-is_body.ensures }
 
-pub returns-else-is-body : goal.returns-else-is-body
-returns-else-is-body c =
+pub returns-else-is_body : goal.returns-else-is_body
+returns-else-is_body c =
     let x = c.args.self.now in
-    record { size = refl; after = heard_whole x.size.heads x c.args.i (message_of c.args.name c.args.body) c.index-self-i.result c.requires.place c.in-Data.x c.in-Data.had c.in-Some.b false c.in-Data.is c.in-Some.is (omega arith) c.if-is-body.ensures }
+    record { size = refl; after = heard_whole x.size.heads x c.args.i (message_of c.args.name c.args.body) c.index-self-i.result c.requires.place c.in-Data.x c.in-Data.had c.in-Some.b false c.in-Data.is c.in-Some.is (omega arith) c.if-is_body.ensures }
 
-pub invariant-of-self : goal.invariant-of-self
-invariant-of-self c =
+pub invariant_of-self : goal.invariant_of-self
+invariant_of-self c =
     let x = c.args.self.now in
     let q = x.queue in
     let p = c.fill.new.self in
@@ -60,7 +60,7 @@ returns-in-None c =
     let e = c.fill.ensures in
     record { size = refl; after = heard_bare x.size.heads x c.args.i (message_of c.args.name c.args.body) c.index-self-i.result c.requires.place c.in-Data.x c.in-Data.had p.base (queue_of p.base p.slots) (table_of p.gone) c.in-Data.is c.in-None.is c.requires.named (omega arith) e.base (ap (λ n. queue_of n p.slots) e.base ∙ e.slots) (ap table_of e.gone) }
 
-pub returns-in-default : goal.returns-in-default
-returns-in-default c =
+pub returns-in_default : goal.returns-in_default
+returns-in_default c =
     let x = c.args.self.now in
-    record { size = refl; after = heard_rest x.size.heads x c.args.i (message_of c.args.name c.args.body) c.index-self-i.result c.requires.place c.in-default.not-Data }
+    record { size = refl; after = heard_rest x.size.heads x c.args.i (message_of c.args.name c.args.body) c.index-self-i.result c.requires.place c.in_default.not-Data }

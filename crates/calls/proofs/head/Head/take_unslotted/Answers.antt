@@ -10,7 +10,7 @@ use Rattle.calls.proofs.Lows.{low_is, near}
 use Rattle.calls.proofs.Pendings.{most_put, own_near}
 use Rattle.calls.proofs.Hearing.{new_old, new_far, new_near, pending_same}
 use Rattle.calls.proofs.head.Head.take_unslotted.Goals as goal
-use Rattle.calls.proofs.head.Head.take_unslotted.Goals.{else-name-k-via-then-name-k+else-is-body, else-name-k-via-else-name-k}
+use Rattle.calls.proofs.head.Head.take_unslotted.Goals.{else-name-k-via-then-name-k+else-is_body, else-name-k-via-else-name-k}
 
 pub returns-then-name-low : goal.returns-then-name-low
 returns-then-name-low c =
@@ -24,13 +24,13 @@ returns-then-name-low-gt4 c =
     let e = low_is x c.args.name.source in
     record { size = refl; after = sym (new_far x.size.heads (model x) (message_of c.args.name c.args.body) (omega arith)) }
 
-pub returns-then-is-body : goal.returns-then-is-body
-returns-then-is-body c =
+pub returns-then-is_body : goal.returns-then-is_body
+returns-then-is_body c =
     let x = c.args.self.now in
     let m = message_of c.args.name c.args.body in
     let e = low_is x c.args.name.source in
     let k = c.in-Some.k in
-    let f = and_from (eqb c.args.name.level.number k.level.number) (same_bytes (body_of c.args.body) (body_of k.body)) (eq-eqb c.args.name.level.number k.level.number (omega arith)) (sym c.if-is-body.ensures) in
+    let f = and_from (eqb c.args.name.level.number k.level.number) (same_bytes (body_of c.args.body) (body_of k.body)) (eq-eqb c.args.name.level.number k.level.number (omega arith)) (sym c.if-is_body.ensures) in
     record { size = refl; after = sym (new_near x.size.heads (model x) m _ (omega arith) (omega arith) (sym c.in-Some.ensures) ∙ pending_same x.size.heads (model x) m _ true f) }
 
 pub returns-else-name-k : goal.returns-else-name-k
@@ -40,7 +40,7 @@ returns-else-name-k c =
     let e = low_is x c.args.name.source in
     let k = c.in-Some.k in
     let f : (eqb c.args.name.level.number k.level.number && same_bytes (body_of c.args.body) (body_of k.body)) ≡ false = elim c.else-name-k.branch [
-      | else-name-k-via-then-name-k+else-is-body w ↦ and_right (eqb c.args.name.level.number k.level.number) (same_bytes (body_of c.args.body) (body_of k.body)) (sym w.is-body.ensures ∙ w.if-is-body.false)
+      | else-name-k-via-then-name-k+else-is-body w ↦ and_right (eqb c.args.name.level.number k.level.number) (same_bytes (body_of c.args.body) (body_of k.body)) (sym w.is_body.ensures ∙ w.if-is_body.false)
       | else-name-k-via-else-name-k w ↦ and_left (eqb c.args.name.level.number k.level.number) (same_bytes (body_of c.args.body) (body_of k.body)) (ne_eqb c.args.name.level.number k.level.number w.if-name-k.false)
     ] in
     record { size = refl; after = sym (new_near x.size.heads (model x) m _ (omega arith) (omega arith) (sym c.in-Some.ensures) ∙ pending_same x.size.heads (model x) m _ false f) }
@@ -54,8 +54,8 @@ returns-in-None c =
     let p = c.keep.ensures.pending ∙ cond-true c.keep.result _ _ (c.keep.ensures.answer ∙ near x.inbox.low c.args.name.source c.args.name.number (omega arith) (omega arith)) in
     record { size = refl; after = ap (λ (v : Pending). done x.size.heads kept (with_pending (model x) v) []) p ∙ sym (new_near x.size.heads (model x) m _ (omega arith) (omega arith) (sym c.in-None.ensures)) }
 
-pub invariant-of-self : goal.invariant-of-self
-invariant-of-self c =
+pub invariant_of-self : goal.invariant_of-self
+invariant_of-self c =
     let x = c.args.self.now in
     let e = low_is x c.args.name.source in
     let w = c.args.name in

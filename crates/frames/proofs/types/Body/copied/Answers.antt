@@ -1,8 +1,8 @@
 use Rattle.frames.proofs.Fronts.{front_again, front_rest}
 use Rattle.frames.proofs.types.Body.copied.Goals as goal
 
-pub invariant-of-result : goal.invariant-of-result
-invariant-of-result c = (c.put.auto.out, (c.requires, tt))
+pub invariant_of-result : goal.invariant_of-result
+invariant_of-result c = record { places = c.put.auto.out; fits = c.requires }
 
 pub returns : goal.returns
 returns c =

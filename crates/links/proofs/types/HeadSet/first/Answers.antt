@@ -3,8 +3,8 @@ use borrow.Rule.Slice.PartMut.{same_len_mid}
 use Rattle.links.proofs.HeadSets.{first_flags}
 use Rattle.links.proofs.types.HeadSet.first.Goals as goal
 
-pub invariant-of-result : goal.invariant-of-result
-invariant-of-result c = (same_len_mid 0 (c.args.heads - 0) (replicate 8 false) c.fill.new.self c.fill.ensures.len, tt)
+pub invariant_of-result : goal.invariant_of-result
+invariant_of-result c = (same_len_mid 0 (c.args.heads - 0) (replicate 8 false) c.fill.new.self c.fill.ensures.len, tt)
 
 pub returns : goal.returns
 returns c = first_flags c.args.heads 8 c.fill.new.self c.requires (c.fill.ensures.after (λ y e. e))

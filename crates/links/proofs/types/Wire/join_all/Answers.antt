@@ -7,10 +7,10 @@ use Rattle.links.proofs.Fronts.{each_given_back}
 use Rattle.links.proofs.WireMeanings.{put_keeps_meaning}
 use Rattle.links.proofs.types.Wire.join_all.Goals as goal
 
-pub invariant-of-self : goal.invariant-of-self
-invariant-of-self c =
+pub invariant_of-self : goal.invariant_of-self
+invariant_of-self c =
     let w = c.args.self.now in
-    (same_len_mid 0 _ w.queues c.join-each.new.queues c.join-each.auto.queues ∙ w.places, (w.within, tt))
+    (same_len_mid 0 _ w.queues c.join_each.new.queues c.join_each.auto.queues ∙ w.places, (w.within, tt))
 
 pub returns : goal.returns
 returns c =
@@ -18,5 +18,5 @@ returns c =
     let p = packet_of c.args.packet in
     let l = w.places in
     let i = w.within in
-    let e = each_given_back queue_of (joined p) w.heads _ w.queues c.join-each.new.queues _ (omega arith) (omega arith) c.join-each.auto.queues c.join-each.ensures in
+    let e = each_given_back queue_of (joined p) w.heads _ w.queues c.join_each.new.queues _ (omega arith) (omega arith) c.join_each.auto.queues c.join_each.ensures in
     record { meaning = put_keeps_meaning p (wire_of w) _ e; after = e }

@@ -6,10 +6,10 @@ use Rattle.links.proofs.Fronts.{lent, given_back}
 use Rattle.links.proofs.WireMeanings.{take_keeps_meaning}
 use Rattle.links.proofs.types.Wire.leave.Goals as goal
 
-pub invariant-of-self : goal.invariant-of-self
-invariant-of-self c =
+pub invariant_of-self : goal.invariant_of-self
+invariant_of-self c =
     let w = c.args.self.now in
-    (same_len_mid 0 (w.heads - 0) w.queues c.leave-at.new.queues c.leave-at.auto.queues ∙ w.places, (w.within, tt))
+    (same_len_mid 0 (w.heads - 0) w.queues c.leave_at.new.queues c.leave_at.auto.queues ∙ w.places, (w.within, tt))
 
 pub returns : goal.returns
 returns c =
@@ -17,6 +17,6 @@ returns c =
     let h = c.args.head in
     let l = w.places in
     let i = w.within in
-    let a = c.leave-at.ensures.answer ∙ ap (taken_wire h) (lent queue_of w.heads w.queues) in
-    let e = given_back queue_of w.heads w.queues (take_wire h) c.leave-at.new.queues (post_of 0 (w.heads - 0) w.queues) (omega arith) c.leave-at.auto.queues c.leave-at.ensures.after in
+    let a = c.leave_at.ensures.answer ∙ ap (taken_wire h) (lent queue_of w.heads w.queues) in
+    let e = given_back queue_of w.heads w.queues (take_wire h) c.leave_at.new.queues (post_of 0 (w.heads - 0) w.queues) (omega arith) c.leave_at.auto.queues c.leave_at.ensures.after in
     record { meaning = take_keeps_meaning h _ (wire_of w) _ a e; answer = a; after = e }

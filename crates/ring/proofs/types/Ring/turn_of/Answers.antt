@@ -2,11 +2,11 @@ use Rattle.std.proofs.Common.{refl}
 use Rattle.ring.proofs.Moving.{facts_after, all_written, moved}
 use Rattle.ring.proofs.types.Ring.turn_of.Goals as goal
 
-pub invariant-of-self : goal.invariant-of-self
-invariant-of-self g c = facts_after c.args.self.now.heads c.requires c.turn-at-done.ensures
+pub invariant_of-self : goal.invariant_of-self
+invariant_of-self g c = facts_after c.args.self.now.heads c.requires c.turn_at-done.ensures
 
 pub send-requires : goal.send-requires
-send-requires g c = all_written c.args.self.now.heads c.requires c.turn-at-done.ensures
+send-requires g c = all_written c.args.self.now.heads c.requires c.turn_at-done.ensures
 
 pub returns : goal.returns
-returns g c = moved c.args.self.now.heads c.requires c.turn-at-done.ensures _ refl refl _ _ _ (refl, refl) c.send.ensures.puts _ c.send.ensures.answer
+returns g c = moved c.args.self.now.heads c.requires c.turn_at-done.ensures _ refl refl _ _ _ (refl, refl) c.send.ensures.puts _ c.send.ensures.answer

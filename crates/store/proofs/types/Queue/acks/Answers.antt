@@ -5,7 +5,7 @@ use Rattle.store.specs.Parts.{queue_of}
 use Rattle.head.proofs.Walk.{acks_zero}
 use Rattle.store.proofs.View.{queue_read}
 use Rattle.store.proofs.Walks.{acks_step}
-use Rattle.store.proofs.types.Queue.acks.Goals.{then-is-ack, else-is-ack}
+use Rattle.store.proofs.types.Queue.acks.Goals.{then-is_ack, else-is_ack}
 use Rattle.store.proofs.types.Queue.acks.Goals as goal
 
 pub loop-s-preserved : goal.loop-s-preserved
@@ -14,9 +14,9 @@ loop-s-preserved c =
     let q : Queue = queue_of s.base s.slots in
     let i = c.loop-s.s-index in
     let r = ap is_ack (queue_read s.base s.slots i _ (omega arith)) ∙ sym c.is_ack.ensures in
-    elim c.if-is-ack.branch [
-      | then-is-ack w ↦ let e = acks_step q 96 s.base i true (omega arith) (r ∙ w.if-is-ack.true) in let n = w.n-is in let v = c.loop-s.invariant in (omega arith, omega arith)
-      | else-is-ack w ↦ let e = acks_step q 96 s.base i false (omega arith) (r ∙ w.if-is-ack.false) in let n = w.n-is in let v = c.loop-s.invariant in (omega arith, omega arith)
+    elim c.if-is_ack.branch [
+      | then-is-ack w ↦ let e = acks_step q 96 s.base i true (omega arith) (r ∙ w.if-is_ack.true) in let n = w.n-is in let v = c.loop-s.invariant in (omega arith, omega arith)
+      | else-is-ack w ↦ let e = acks_step q 96 s.base i false (omega arith) (r ∙ w.if-is_ack.false) in let n = w.n-is in let v = c.loop-s.invariant in (omega arith, omega arith)
     ]
 
 pub returns : goal.returns

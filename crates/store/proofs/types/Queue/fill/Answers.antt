@@ -27,11 +27,11 @@ returns-in-Data c =
     let y = Data c.in-Data.name (Some c.args.body) in
     record { base = refl; gone = refl; slots = body_set b q t (slot_of y) _ (body_data c.args.body c.in-Data.name _ ∙ ap (with_body b) (sym e)) (queue_set x.base x.slots c.args.i y (omega arith)) }
 
-pub returns-in-default : goal.returns-in-default
-returns-in-default c =
+pub returns-in_default : goal.returns-in_default
+returns-in_default c =
     let x = c.args.self.now in
     let l = x.places in
     let b = body_of c.args.body in
     let t = x.base + c.args.i in
     let e = queue_read x.base x.slots c.args.i c.index-self-i.result (omega arith) in
-    record { base = refl; gone = refl; slots = body_nowhere b (queue_of x.base x.slots) t (ap (with_body b) e ∙ (body_rest b _ c.in-default.not-Data ∙ sym e)) }
+    record { base = refl; gone = refl; slots = body_nowhere b (queue_of x.base x.slots) t (ap (with_body b) e ∙ (body_rest b _ c.in_default.not-Data ∙ sym e)) }

@@ -10,12 +10,12 @@ use Rattle.store.proofs.types.Queue.find.Goals as goal
 pub loop-i-init : goal.loop-i-init
 loop-i-init c = walk_start (place_of (queue_of c.args.self.now.base c.args.self.now.slots) (name_of c.args.name)) 96 c.args.self.now.base
 
-pub returns-then-is-named : goal.returns-then-is-named
-returns-then-is-named c =
+pub returns-then-is_named : goal.returns-then-is_named
+returns-then-is_named c =
     let s = c.args.self.now in
     let q : Queue = queue_of s.base s.slots in
     let x = name_of c.args.name in
-    let e = ap (λ (y : Slot). names_it x (named y)) (queue_read s.base s.slots c.loop-i.i _ (omega arith)) ∙ sym c.if-is-named.ensures in
+    let e = ap (λ (y : Slot). names_it x (named y)) (queue_read s.base s.slots c.loop-i.i _ (omega arith)) ∙ sym c.if-is_named.ensures in
     record { place = walk_stop (place_of q x) 96 s.base c.loop-i.i (omega arith) (λ k. place_hit q x k _ e) ∙ c.loop-i.invariant; bound = (omega arith, e) }
 
 pub loop-i-preserved : goal.loop-i-preserved
@@ -23,7 +23,7 @@ loop-i-preserved c =
     let s = c.args.self.now in
     let q : Queue = queue_of s.base s.slots in
     let x = name_of c.args.name in
-    let e = ap (λ (y : Slot). names_it x (named y)) (queue_read s.base s.slots c.loop-i.i _ (omega arith)) ∙ sym c.if-is-named.ensures in
+    let e = ap (λ (y : Slot). names_it x (named y)) (queue_read s.base s.slots c.loop-i.i _ (omega arith)) ∙ sym c.if-is_named.ensures in
     walk_more (place_of q x) 96 s.base c.loop-i.i (omega arith) (λ k. place_miss q x k _ e) ∙ c.loop-i.invariant
 
 pub returns : goal.returns

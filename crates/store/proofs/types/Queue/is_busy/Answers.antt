@@ -33,7 +33,7 @@ loop-i-preserved c =
     let q : Queue = queue_of s.base s.slots in
     let i = c.loop-i.i in
     let k = c.loop-i.left in
-    busy_before q i (i - 1) s.base k (k - 1) (omega arith) (omega arith) (other_read s (i - 1) _ (omega arith) c.in-default.not-Ack) ∙ c.loop-i.invariant
+    busy_before q i (i - 1) s.base k (k - 1) (omega arith) (omega arith) (other_read s (i - 1) _ (omega arith) c.in_default.not-Ack) ∙ c.loop-i.invariant
 
 pub returns : goal.returns
 returns c =

@@ -5,7 +5,7 @@ use Rattle.store.specs.Parts.{queue_of}
 use Rattle.store.proofs.Looking.{ack_read, other_read}
 use Rattle.store.proofs.Holding.{issuers_ack, issuers_other, issuers_end, or_none, told_more, told_far}
 use Rattle.store.proofs.types.Queue.issuers_from.Goals as goal
-use Rattle.store.proofs.types.Queue.issuers_from.Goals.{in-Ack+then-issuer-lt8, in-Ack+else-issuer-lt8, in-default}
+use Rattle.store.proofs.types.Queue.issuers_from.Goals.{in-Ack+then-issuer-lt8, in-Ack+else-issuer-lt8, in_default}
 
 pub loop-i-preserved : goal.loop-i-preserved
 loop-i-preserved c =
@@ -26,7 +26,7 @@ loop-i-preserved c =
           let far = w.if-issuer-lt8.false in
           (ap length w.issued-is ∙ v.0, λ g h. ap (λ (ys : List Bool). get_or ys g false || among g on) w.issued-is ∙ (told_far xs j g on (omega arith) ∙ (ap (λ (is : List ℕ). get_or xs g false || among g is) (sym e) ∙ v.1 g h)))
       | in-default w ↦
-          let e = issuers_other q 96 s.base i (omega arith) (other_read s i _ (omega arith) w.in-default.not-Ack) in
+          let e = issuers_other q 96 s.base i (omega arith) (other_read s i _ (omega arith) w.in_default.not-Ack) in
           (ap length w.issued-is ∙ v.0, λ g h. ap (λ (ys : List Bool). get_or ys g false || among g on) w.issued-is ∙ (ap (λ (is : List ℕ). get_or xs g false || among g is) (sym e) ∙ v.1 g h))
     ]
 

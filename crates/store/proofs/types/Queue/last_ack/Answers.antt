@@ -8,14 +8,14 @@ use Rattle.store.proofs.Looking.{last_before, last_nowhere}
 use Rattle.store.proofs.Holding.{stamp_here, last_upto}
 use Rattle.store.proofs.types.Queue.last_ack.Goals as goal
 
-pub returns-then-is-ack : goal.returns-then-is-ack
-returns-then-is-ack c =
+pub returns-then-is_ack : goal.returns-then-is_ack
+returns-then-is_ack c =
     let s = c.args.self.now in
     let q : Queue = queue_of s.base s.slots in
     let i = c.loop-i.i in
     let l = s.places in
     record {
-      value = λ k e. sym (stamp_here q i (i - 1) s.base (omega arith) (ap is_ack (queue_read s.base s.slots (i - 1) _ (omega arith)) ∙ sym c.if-is-ack.ensures)) ∙ ap stamp_of (c.loop-i.invariant ∙ last_upto s _ k e);
+      value = λ k e. sym (stamp_here q i (i - 1) s.base (omega arith) (ap is_ack (queue_read s.base s.slots (i - 1) _ (omega arith)) ∙ sym c.if-is_ack.ensures)) ∙ ap stamp_of (c.loop-i.invariant ∙ last_upto s _ k e);
       bound = (omega arith, omega arith);
     }
 
@@ -25,7 +25,7 @@ loop-i-preserved c =
     let q : Queue = queue_of s.base s.slots in
     let i = c.loop-i.i in
     let l = s.places in
-    last_before q i (i - 1) s.base (omega arith) (ap is_ack (queue_read s.base s.slots (i - 1) _ (omega arith)) ∙ sym c.if-is-ack.ensures) ∙ c.loop-i.invariant
+    last_before q i (i - 1) s.base (omega arith) (ap is_ack (queue_read s.base s.slots (i - 1) _ (omega arith)) ∙ sym c.if-is_ack.ensures) ∙ c.loop-i.invariant
 
 pub returns : goal.returns
 returns c =

@@ -8,7 +8,7 @@ use Rattle.store.proofs.View.{queue_read}
 use Rattle.store.proofs.Fronts.{rest_more}
 use Rattle.store.proofs.Lacking.{lacks_one, lacks_none, lacks_all, lacks_count}
 use Rattle.store.proofs.types.Queue.list_missing.Goals as goal
-use Rattle.store.proofs.types.Queue.list_missing.Goals.{then-not-is-full, else-not-is-full}
+use Rattle.store.proofs.types.Queue.list_missing.Goals.{then-not-is_full, else-not-is_full}
 
 pub loop-i-init : goal.loop-i-init
 loop-i-init c =
@@ -25,20 +25,20 @@ loop-i-preserved c =
     let zs = c.loop-i.list in
     let es = c.args.list.now in
     let v = c.loop-i.invariant in
-    let p = c.places-known-i-end.ensures in
+    let p = c.places_known-i-end.ensures in
     let l = x.places in
-    let r = ap full (queue_read x.base x.slots i c.index-self-i.result (omega arith)) ∙ sym c.is-full.ensures in
+    let r = ap full (queue_read x.base x.slots i c.index-self-i.result (omega arith)) ∙ sym c.is_full.ensures in
     let on : List ℕ = missing_from q (end_of x) (96 - (i + 1)) (x.base + (i + 1)) in
-    elim c.if-not-is-full.branch [
+    elim c.if-not-is_full.branch [
       | then-not-is-full w ↦
           let n = w.count-is in (
-            (λ j. take (n j) (w.list-is j) ++ on) ∙ lacks_one q (end_of x) x.base i (omega arith) zs _ k (omega arith) (omega arith) (r ∙ w.if-not-is-full.true) v.0,
+            (λ j. take (n j) (w.list-is j) ++ on) ∙ lacks_one q (end_of x) x.base i (omega arith) zs _ k (omega arith) (omega arith) (r ∙ w.if-not-is_full.true) v.0,
             (λ j. drop (n j) (w.list-is j)) ∙ (rest_more zs es k (x.base + i) v.1 ∙ ap (λ m. drop m es) (sym n)),
             omega arith,
           )
       | else-not-is-full w ↦
           let n = w.count-is in (
-            (λ j. take (n j) (w.list-is j) ++ on) ∙ lacks_none q (end_of x) x.base i (omega arith) (take k zs) _ (r ∙ w.if-not-is-full.false) v.0,
+            (λ j. take (n j) (w.list-is j) ++ on) ∙ lacks_none q (end_of x) x.base i (omega arith) (take k zs) _ (r ∙ w.if-not-is_full.false) v.0,
             (λ j. drop (n j) (w.list-is j)) ∙ (v.1 ∙ ap (λ m. drop m es) (sym n)),
             omega arith,
           )
@@ -52,7 +52,7 @@ returns c =
     let k = c.loop-i.count in
     let zs = c.loop-i.list in
     let v = c.loop-i.invariant in
-    let p = c.places-known-i-end.ensures in
+    let p = c.places_known-i-end.ensures in
     record {
       count = lacks_count q (end_of x) (96 - i) (x.base + i) k zs _ (omega arith) v.0 (omega arith);
       bound = omega arith;

@@ -9,17 +9,17 @@ use Rattle.store.proofs.types.Queue.mark.Goals as goal
 pub loop-i-init : goal.loop-i-init
 loop-i-init c = walk_start (first_not full (queue_of c.args.self.now.base c.args.self.now.slots)) 96 c.args.self.now.base
 
-pub returns-then-not-is-full : goal.returns-then-not-is-full
-returns-then-not-is-full c =
+pub returns-then-not-is_full : goal.returns-then-not-is_full
+returns-then-not-is_full c =
     let s = c.args.self.now in
     let q : Queue = queue_of s.base s.slots in
-    walk_stop (first_not full q) 96 s.base c.loop-i.i (omega arith) (λ k. first_stop full q k _ (ap full (queue_read s.base s.slots c.loop-i.i _ (omega arith)) ∙ sym c.if-not-is-full.ensures)) ∙ c.loop-i.invariant
+    walk_stop (first_not full q) 96 s.base c.loop-i.i (omega arith) (λ k. first_stop full q k _ (ap full (queue_read s.base s.slots c.loop-i.i _ (omega arith)) ∙ sym c.if-not-is_full.ensures)) ∙ c.loop-i.invariant
 
 pub loop-i-preserved : goal.loop-i-preserved
 loop-i-preserved c =
     let s = c.args.self.now in
     let q : Queue = queue_of s.base s.slots in
-    walk_more (first_not full q) 96 s.base c.loop-i.i (omega arith) (λ k. first_more full q k _ (ap full (queue_read s.base s.slots c.loop-i.i _ (omega arith)) ∙ sym c.if-not-is-full.ensures)) ∙ c.loop-i.invariant
+    walk_more (first_not full q) 96 s.base c.loop-i.i (omega arith) (λ k. first_more full q k _ (ap full (queue_read s.base s.slots c.loop-i.i _ (omega arith)) ∙ sym c.if-not-is_full.ensures)) ∙ c.loop-i.invariant
 
 pub returns : goal.returns
 returns c =

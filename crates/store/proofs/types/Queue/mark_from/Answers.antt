@@ -36,9 +36,9 @@ loop-i-preserved c =
       | else-i-from w ↦
           let s = slot_of (get_or x.slots i w.index-self-i.result) in
           let e = queue_read x.base x.slots i w.index-self-i.result (omega arith) in (
-            ap length w.marked-is ∙ (w.new-mark-mark.auto.marked ∙ v.0),
-            marked_more n me q x.base f c.loop-i.marked c.if-i-from.marked i s w.if-i-from.false e (λ g. ap (λ (ys : List Bool). get_or ys g false) w.marked-is ∙ w.new-mark-mark.ensures.table g) v.1,
-            λ h k. marks_more n me x f h k i c.if-i-from.mark zs _ (omega arith) (omega arith) (w.mark_is ∙ (w.new-mark-mark.ensures.mark ∙ mark_after n me x f h k c.loop-i.marked i s w.if-i-from.false e v.1)) (v.2 h k),
+            ap length w.marked-is ∙ (w.new_mark-mark.auto.marked ∙ v.0),
+            marked_more n me q x.base f c.loop-i.marked c.if-i-from.marked i s w.if-i-from.false e (λ g. ap (λ (ys : List Bool). get_or ys g false) w.marked-is ∙ w.new_mark-mark.ensures.table g) v.1,
+            λ h k. marks_more n me x f h k i c.if-i-from.mark zs _ (omega arith) (omega arith) (w.mark_is ∙ (w.new_mark-mark.ensures.mark ∙ mark_after n me x f h k c.loop-i.marked i s w.if-i-from.false e v.1)) (v.2 h k),
             rest,
           )
     ]

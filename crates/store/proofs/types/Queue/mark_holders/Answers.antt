@@ -18,5 +18,5 @@ returns c =
             | in-None w ↦ marks_nowhere n c.args.me x f h k c.args.stamp w.from-is w.in-None.ensures.value
             | in-Some w ↦ let b = w.in-Some.ensures.bound in let d = w.from-is in marks_since n c.args.me x f h k c.args.stamp w.in-Some.t (omega arith) w.in-Some.ensures.value
           ] in
-          c.mark-from.ensures h k ∙ ap (λ (ys : List ℕ). ys ++ drop 96 c.args.scratch.now) e;
+          c.mark_from.ensures h k ∙ ap (λ (ys : List ℕ). ys ++ drop 96 c.args.scratch.now) e;
     }

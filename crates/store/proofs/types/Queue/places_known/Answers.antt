@@ -4,8 +4,8 @@ use Rattle.head.proofs.Walk.{past_last_ends}
 use Rattle.store.specs.Parts.{queue_of}
 use Rattle.store.proofs.types.Queue.places_known.Goals as goal
 
-pub overflow-sub-result : goal.overflow-sub-result
-overflow-sub-result c =
+pub overflow_sub-result : goal.overflow_sub-result
+overflow_sub-result c =
     let x = c.args.self.now in
     let e = c.end.ensures in
     omega (arith, (past_last_ends known (queue_of x.base x.slots) 96 x.base).from)

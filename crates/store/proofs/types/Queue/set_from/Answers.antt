@@ -18,8 +18,8 @@ loop-i-preserved c =
     let l = c.loop-i.self.places in (
       c.loop-i.invariant.0,
       c.loop-i.invariant.1,
-      queue_set s.base c.loop-i.self.slots (c.args.at + 1 + i) c.slot-for.result (omega arith)
-          ∙ laid_more (inbox_of c.args.inbox.now) (ack_of (s.base + c.args.at) c.args.issuer ns) _ _ i (s.base + (c.args.at + 1 + i)) (name_of (get_or ns.all i _)) _ (omega arith) (names_at ns i _ (omega arith)) c.slot-for.ensures c.loop-i.invariant.2,
+      queue_set s.base c.loop-i.self.slots (c.args.at + 1 + i) c.slot_for.result (omega arith)
+          ∙ laid_more (inbox_of c.args.inbox.now) (ack_of (s.base + c.args.at) c.args.issuer ns) _ _ i (s.base + (c.args.at + 1 + i)) (name_of (get_or ns.all i _)) _ (omega arith) (names_at ns i _ (omega arith)) c.slot_for.ensures c.loop-i.invariant.2,
     )
 
 pub returns : goal.returns

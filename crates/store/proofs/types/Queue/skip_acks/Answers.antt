@@ -10,8 +10,8 @@ here c = ap is_ack (sym c.at.ensures) ∙ sym c.loop-stamp-test.ensures
 within : (c : goal.In-loop-stamp) → c.loop-stamp.stamp < c.args.self.now.base + 96
 within c = ack_within c.args.self.now c.loop-stamp.stamp (here c)
 
-pub overflow-add-stamp : goal.overflow-add-stamp
-overflow-add-stamp c = let h = within c in let s = c.args.self.now.small in omega arith
+pub overflow_add-stamp : goal.overflow_add-stamp
+overflow_add-stamp c = let h = within c in let s = c.args.self.now.small in omega arith
 
 pub loop-stamp-smaller : goal.loop-stamp-smaller
 loop-stamp-smaller c = let h = within c in omega arith

@@ -32,10 +32,10 @@ returns-else-self-names c =
     let r = ap (queue_of x.base x.slots) b ∙ (queue_read x.base x.slots 0 c.index-self-0.result (omega arith) ∙ ap slot_of c.in-Ack.is) in
     record { value = λ h. sym (ap (ready c.args.n (part h c.args.due x)) r ∙ ready_ack c.args.n c.args.due x h c.in-Ack.issuer c.in-Ack.names false (omega arith) (le-ltb (x.base + c.in-Ack.names.count) c.args.due (omega arith))); bound = λ y. y }
 
-pub returns-in-default : goal.returns-in-default
-returns-in-default c =
+pub returns-in_default : goal.returns-in_default
+returns-in_default c =
     let x = c.args.self.now in
     let a = x.places in
     let b : x.base ≡ x.base + 0 = omega arith in
     let r = ap (queue_of x.base x.slots) b ∙ queue_read x.base x.slots 0 c.index-self-0.result (omega arith) in
-    record { value = λ h. sym (ap (ready c.args.n (part h c.args.due x)) r ∙ ready_rest c.args.n c.args.due x h _ c.in-default.not-Ack); bound = λ y. y }
+    record { value = λ h. sym (ap (ready c.args.n (part h c.args.due x)) r ∙ ready_rest c.args.n c.args.due x h _ c.in_default.not-Ack); bound = λ y. y }

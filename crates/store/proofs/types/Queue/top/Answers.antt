@@ -16,7 +16,7 @@ loop-i-preserved c =
     let s = c.args.self.now in
     let q : Queue = queue_of s.base s.slots in
     let i = c.loop-i.i in
-    last_before q i (i - 1) s.base (omega arith) (other_read s (i - 1) _ (omega arith) c.in-default.not-Ack) ∙ c.loop-i.invariant
+    last_before q i (i - 1) s.base (omega arith) (other_read s (i - 1) _ (omega arith) c.in_default.not-Ack) ∙ c.loop-i.invariant
 
 pub returns : goal.returns
 returns c =

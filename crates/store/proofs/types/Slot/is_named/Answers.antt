@@ -8,7 +8,7 @@ use Rattle.store.proofs.View.{not_named, data_named}
 use Rattle.store.proofs.types.Slot.is_named.Goals as goal
 
 pub returns-in-Data : goal.returns-in-Data
-returns-in-Data c = c.is-message.ensures ∙ sym (ap (names_it (name_of c.args.name)) (ap (λ (s : CSlot). named (slot_of s)) c.in-Data.is ∙ data_named c.in-Data.x _))
+returns-in-Data c = c.is_message.ensures ∙ sym (ap (names_it (name_of c.args.name)) (ap (λ (s : CSlot). named (slot_of s)) c.in-Data.is ∙ data_named c.in-Data.x _))
 
-pub returns-in-default : goal.returns-in-default
-returns-in-default c = sym (not_named (name_of c.args.name) _ c.in-default.not-Data)
+pub returns-in_default : goal.returns-in_default
+returns-in_default c = sym (not_named (name_of c.args.name) _ c.in_default.not-Data)
