@@ -113,9 +113,9 @@ impl Kind for SetPoint {
 
 // The body that says the value. What comes is read back as the same value.
 pub fn encode<K: Kind>(value: &K) -> Result<Body, Refusal>
-    ensures answer { meant body_of result ≡ (if good value.now then Ok (bytes value.now) else Err ValueOutOfRange) }
+    ensures answer { meant body_of result ≡ (if K.good value.now then Ok (K.bytes value.now) else Err ValueOutOfRange) }
     ensures rest { IfOk result BodyRest }
-    ensures back { IfOk result (λ b. reads (body_of b) ≡ Ok value.now) }
+    ensures back { IfOk result (λ b. K.reads (body_of b) ≡ Ok value.now) }
 {
     let mut out = [0; 8];
     match value.write(&mut out) {
@@ -126,7 +126,7 @@ pub fn encode<K: Kind>(value: &K) -> Result<Body, Refusal>
 
 // The value that the body says, where it is of this kind.
 pub fn decode<K: Kind>(body: &Body) -> Result<K, Refusal>
-    ensures { result ≡ reads (body_of body.now) }
+    ensures { result ≡ K.reads (body_of body.now) }
 {
     K::read(body.as_slice())
 }

@@ -9,8 +9,8 @@ use frames::types::Packet;
 
 // Puts a packet, and then takes for a head until one comes, so many times at most.
 pub fn pass<L: Link>(link: &mut L, packet: Packet, head: u8, tries: u8) -> Option<Packet>
-    ensures came { Came (packet_of packet) head (taken_of result) (waits link.old) }
-    ensures left { AfterPut (packet_of packet) (waits link.old) (waits link.new) }
+    ensures came { Came (packet_of packet) head (taken_of result) (L.waits link.old) }
+    ensures left { AfterPut (packet_of packet) (L.waits link.old) (L.waits link.new) }
 {
     link.put(packet);
     for _ in 0..tries {

@@ -19,7 +19,7 @@ use store::types::Frames;
 // Puts one frame, as a packet.
 fn put_one<L: Link>(link: &mut L, size: RingSize, frame: Frame)
     requires { frame_ok size.heads (frame_of frame) ≡ true }
-    ensures { AfterPut (written size.heads (frame_of frame)) (waits link.old) (waits link.new) }
+    ensures { AfterPut (written size.heads (frame_of frame)) (L.waits link.old) (L.waits link.new) }
 {
     match pack(size, frame) {
         Ok(packet) => link.put(packet),
@@ -30,7 +30,7 @@ fn put_one<L: Link>(link: &mut L, size: RingSize, frame: Frame)
 // Puts the frames of a call, in their order.
 fn put_all<L: Link>(link: &mut L, size: RingSize, puts: Frames)
     requires { (f : MFrame) → Memᴰ f (puts_of puts) → frame_ok size.heads f ≡ true }
-    ensures { AfterPuts (map (written size.heads) (puts_of puts)) (waits link.old) (waits link.new) }
+    ensures { AfterPuts (map (written size.heads) (puts_of puts)) (L.waits link.old) (L.waits link.new) }
 {
     for i in 0..puts.count as usize {
         let frame = puts.all[i];
@@ -46,7 +46,7 @@ pub(crate) fn send<L: Link, T>(
 ) -> Result<T, Refusal>
     requires { (f : MFrame) → Memᴰ f (puts_in done) → frame_ok size.heads f ≡ true }
     ensures answer { result ≡ answer_in done }
-    ensures puts { AfterPuts (map (written size.heads) (puts_in done)) (waits link.old) (waits link.new) }
+    ensures puts { AfterPuts (map (written size.heads) (puts_in done)) (L.waits link.old) (L.waits link.new) }
 {
     let Done {
         answer,

@@ -62,7 +62,7 @@ impl Roster {
 
     // Clears the link, and runs the heads that are fitted, each at its start, over it. With fewer than two the link is not touched.
     pub fn start<L: Link>(self, mut link: L) -> Result<Ring<L>, NotStarted<L>>
-        ensures { MatchResult result (λ s. Started self.count s.heads (waits s.link)) (λ e. (self.count < 2) × (e.refusal ≡ TooFewHeads) × (e.roster ≡ self) × (e.link ≡ link)) }
+        ensures { MatchResult result (λ s. Started self.count s.heads (L.waits s.link)) (λ e. (self.count < 2) × (e.refusal ≡ TooFewHeads) × (e.roster ≡ self) × (e.link ≡ link)) }
     {
         match RingSize::new(self.count) {
             Ok(size) => {

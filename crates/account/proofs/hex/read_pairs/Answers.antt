@@ -1,7 +1,7 @@
 use Rattle.std.proofs.Common.{◌≡◌, ℕ, List, Some, None, vec_items, sym, ap, ◌∙◌}
 use Rattle.account.proofs.Digits.{left, left_start, left_blank, left_stops, left_opens, left_closes, left_ends}
 use Rattle.account.proofs.hex.read_pairs.Goals as goal
-use Rattle.account.proofs.hex.read_pairs.Goals.{in-None, in-Some-open+in-ok-push}
+use Rattle.account.proofs.hex.read_pairs.Goals.{in-None, in-Some-open+in_ok-push-in-Some-open}
 
 pub loop-c-init : goal.loop-c-init
 loop-c-init c = (ap (λ (xs : List ℕ). left xs None c.args.text.now 0) c.new-bytes.ensures.items ∙ left_start c.args.text.now, tt)
@@ -26,9 +26,9 @@ loop-c-preserved c =
       | in-None w ↦
           let e = left_opens xs text i c.loop-c-test.true d b v ∙ (rw w.in-None.is at c.loop-c.invariant.0) in
           rw (w.bytes-is, w.open-is) (e, c.in-Some.ensures.bound)
-      | in-Some-open+in-ok-push w ↦
+      | in-Some-open+in_ok-push-in-Some-open w ↦
           let k = w.in-Some-open.h in
-          let p = w.in_ok-push.ensures.items in
+          let p = w.in_ok-push-in-Some-open.ensures.items in
           let e = left_closes xs text i c.loop-c-test.true k d b v ∙ (rw w.in-Some-open.is at c.loop-c.invariant.0) in
           rw (w.bytes-is, w.open-is, p) (e, tt)
     ]

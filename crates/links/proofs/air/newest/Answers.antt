@@ -11,8 +11,8 @@ loop-i-preserved c =
     let ps = c.args.places.now in
     let m = length-map ps place_of in
     elim c.if-has.branch [
-      | then-has w ↦ w.found_is ∙ newest_found c.args.head c.loop-i.i (map place_of ps) _ (omega arith) (item_waits c.args.head ps c.loop-i.i c.index-places-i.result _ c.loop-i-test.true c.index-places-i.is w.if-has.ensures)
-      | else-has w ↦ w.found_is ∙ newest_kept c.args.head c.loop-i.i (map place_of ps) c.loop-i.found _ (omega arith) c.loop-i.invariant (item_waits c.args.head ps c.loop-i.i c.index-places-i.result _ c.loop-i-test.true c.index-places-i.is w.if-has.ensures)
+      | then-has w ↦ w.found-is ∙ newest_found c.args.head c.loop-i.i (map place_of ps) _ (omega arith) (item_waits c.args.head ps c.loop-i.i c.index-places-i.result _ c.loop-i-test.true c.index-places-i.is w.if-has.ensures)
+      | else-has w ↦ w.found-is ∙ newest_kept c.args.head c.loop-i.i (map place_of ps) c.loop-i.found _ (omega arith) c.loop-i.invariant (item_waits c.args.head ps c.loop-i.i c.index-places-i.result _ c.loop-i-test.true c.index-places-i.is w.if-has.ensures)
     ]
 
 pub returns : goal.returns

@@ -15,7 +15,11 @@ unfolding table_of
 invariant_of-name c =
     let x = c.args.self.now in
     let k = kept_small x.inbox c.args.source c.args.place _ _ _ c.requires.head c.requires.near x.numbered c.in-Some.is in
-    (c.requires.head, (omega arith, (k, tt)))
+    record {
+      head = c.requires.head;
+      counted = omega arith;
+      small = k;
+    }
 
 pub returns-in-None : goal.returns-in-None
 returns-in-None c =

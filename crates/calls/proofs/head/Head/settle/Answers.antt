@@ -12,28 +12,13 @@ returns c =
 pub invariant_of-self : goal.invariant_of-self
 invariant_of-self c =
     let x = c.args.self.now in
-    let e = c.give_up.ensures in (
-      x.member,
-      (
-        (e.from x.range.0, x.range.1),
-        (
-          e.passed x.passed,
-          (
-            e.ends x.ends,
-            (
-              e.own x.me x.made x.own,
-              (
-                x.unmade,
-                (
-                  x.numbered,
-                  (
-                    (λ s. x.lows s ∙ sym (e.low x.passed s)),
-                    tt,
-                  ),
-                ),
-              ),
-            ),
-          ),
-        ),
-      ),
-    )
+    let e = c.give_up.ensures in record {
+      member = x.member;
+      range = (e.from x.range.0, x.range.1);
+      passed = e.passed x.passed;
+      ends = e.ends x.ends;
+      own = e.own x.me x.made x.own;
+      unmade = x.unmade;
+      numbered = x.numbered;
+      lows = (λ s. x.lows s ∙ sym (e.low x.passed s));
+    }

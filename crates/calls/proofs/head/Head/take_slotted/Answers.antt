@@ -27,31 +27,16 @@ invariant_of-self c =
     let p = c.fill.new.self in
     let e = c.fill.ensures in
     let b = body_of c.args.body in
-    let t = q.base + c.args.i in (
-      x.member,
-      (
-        (omega (arith, e.base, x.range.0), x.range.1),
-        (
-          filled_passed q p b t e.base e.gone e.slots x.due x.passed,
-          (
-            filled_ends q p b t e.base e.gone e.slots x.ends,
-            (
-              filled_own q p b t e.base e.gone e.slots x.me x.made x.own,
-              (
-                x.unmade,
-                (
-                  x.numbered,
-                  (
-                    (λ s. x.lows s ∙ sym (filled_low q p b t e.base e.gone e.slots s)),
-                    tt,
-                  ),
-                ),
-              ),
-            ),
-          ),
-        ),
-      ),
-    )
+    let t = q.base + c.args.i in record {
+      member = x.member;
+      range = (omega (arith, e.base, x.range.0), x.range.1);
+      passed = filled_passed q p b t e.base e.gone e.slots x.due x.passed;
+      ends = filled_ends q p b t e.base e.gone e.slots x.ends;
+      own = filled_own q p b t e.base e.gone e.slots x.me x.made x.own;
+      unmade = x.unmade;
+      numbered = x.numbered;
+      lows = (λ s. x.lows s ∙ sym (filled_low q p b t e.base e.gone e.slots s));
+    }
 
 pub returns-in-None : goal.returns-in-None
 returns-in-None c =

@@ -60,28 +60,13 @@ invariant_of-self c =
     let e = low_is x c.args.name.source in
     let w = c.args.name in
     let p = c.keep.ensures.pending ∙ cond-true c.keep.result _ _ (c.keep.ensures.answer ∙ near x.inbox.low w.source w.number (omega arith) (omega arith)) in
-    let kept : (g b : ℕ) → Most g b (inbox_of x.inbox) → (g ≡ w.source → w.number ≤ b) → Most g b (inbox_of c.keep.new.self) = λ g b few h. most_put g b w.source w.number _ (inbox_of x.inbox) (inbox_of c.keep.new.self) few h p in (
-      x.member,
-      (
-        x.range,
-        (
-          x.passed,
-          (
-            x.ends,
-            (
-              x.own,
-              (
-                kept x.me x.made x.unmade (own_near (model x) (name_of w) c.requires),
-                (
-                  (λ s. kept s 500000 (x.numbered s) (λ _. w.small)),
-                  (
-                    (λ s. ap (λ (l : List ℕ). table_of l s) c.keep.ensures.low ∙ x.lows s),
-                    tt,
-                  ),
-                ),
-              ),
-            ),
-          ),
-        ),
-      ),
-    )
+    let kept : (g b : ℕ) → Most g b (inbox_of x.inbox) → (g ≡ w.source → w.number ≤ b) → Most g b (inbox_of c.keep.new.self) = λ g b few h. most_put g b w.source w.number _ (inbox_of x.inbox) (inbox_of c.keep.new.self) few h p in record {
+      member = x.member;
+      range = x.range;
+      passed = x.passed;
+      ends = x.ends;
+      own = x.own;
+      unmade = kept x.me x.made x.unmade (own_near (model x) (name_of w) c.requires);
+      numbered = (λ s. kept s 500000 (x.numbered s) (λ _. w.small));
+      lows = (λ s. ap (λ (l : List ℕ). table_of l s) c.keep.ensures.low ∙ x.lows s);
+    }

@@ -8,7 +8,10 @@ pub invariant_of-self : goal.invariant_of-self
 invariant_of-self c =
     let s = c.args.self.now in
     let w = s.within in
-    (same_len_mid c.args.i (s.count - c.args.i) s.all c.rotate_left.new.self c.rotate_left.ensures.len ∙ s.places, (omega arith, tt))
+    record {
+      places = same_len_mid c.args.i (s.count - c.args.i) s.all c.rotate_left.new.self c.rotate_left.ensures.len ∙ s.places;
+      within = omega arith;
+    }
 
 pub returns : goal.returns
 returns c =

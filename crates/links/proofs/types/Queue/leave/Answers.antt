@@ -8,7 +8,10 @@ pub invariant_of-self : goal.invariant_of-self
 invariant_of-self c =
     let q = c.args.self.now in
     let w = q.within in
-    (same_len_mid 0 (q.count - 0) q.packets c.rotate_left.new.self c.rotate_left.ensures.len ∙ q.places, (omega arith, tt))
+    record {
+      places = same_len_mid 0 (q.count - 0) q.packets c.rotate_left.new.self c.rotate_left.ensures.len ∙ q.places;
+      within = omega arith;
+    }
 
 pub returns : goal.returns
 returns c =

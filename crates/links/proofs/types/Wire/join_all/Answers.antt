@@ -10,7 +10,10 @@ use Rattle.links.proofs.types.Wire.join_all.Goals as goal
 pub invariant_of-self : goal.invariant_of-self
 invariant_of-self c =
     let w = c.args.self.now in
-    (same_len_mid 0 _ w.queues c.join_each.new.queues c.join_each.auto.queues ∙ w.places, (w.within, tt))
+    record {
+      places = same_len_mid 0 _ w.queues c.join_each.new.queues c.join_each.auto.queues ∙ w.places;
+      within = w.within;
+    }
 
 pub returns : goal.returns
 returns c =

@@ -9,7 +9,10 @@ use Rattle.links.proofs.types.Wire.leave.Goals as goal
 pub invariant_of-self : goal.invariant_of-self
 invariant_of-self c =
     let w = c.args.self.now in
-    (same_len_mid 0 (w.heads - 0) w.queues c.leave_at.new.queues c.leave_at.auto.queues ∙ w.places, (w.within, tt))
+    record {
+      places = same_len_mid 0 (w.heads - 0) w.queues c.leave_at.new.queues c.leave_at.auto.queues ∙ w.places;
+      within = w.within;
+    }
 
 pub returns : goal.returns
 returns c =

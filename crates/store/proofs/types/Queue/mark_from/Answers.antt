@@ -30,7 +30,7 @@ loop-i-preserved c =
       | then-i-from w ↦ (
         ap length w.marked-is ∙ v.0,
         marked_before n me q x.base f c.if-i-from.marked i w.if-i-from.true (λ g. ap (λ (ys : List Bool). get_or ys g false) w.marked-is ∙ v.1 g),
-        λ h k. marks_more n me x f h k i c.if-i-from.mark zs _ (omega arith) (omega arith) (w.mark_is ∙ mark_none n me x f h k i w.if-i-from.true) (v.2 h k),
+        λ h k. marks_more n me x f h k i c.if-i-from.mark zs _ (omega arith) (omega arith) (w.mark-is ∙ mark_none n me x f h k i w.if-i-from.true) (v.2 h k),
         rest,
       )
       | else-i-from w ↦
@@ -38,7 +38,7 @@ loop-i-preserved c =
           let e = queue_read x.base x.slots i w.index-self-i.result (omega arith) in (
             ap length w.marked-is ∙ (w.new_mark-mark.auto.marked ∙ v.0),
             marked_more n me q x.base f c.loop-i.marked c.if-i-from.marked i s w.if-i-from.false e (λ g. ap (λ (ys : List Bool). get_or ys g false) w.marked-is ∙ w.new_mark-mark.ensures.table g) v.1,
-            λ h k. marks_more n me x f h k i c.if-i-from.mark zs _ (omega arith) (omega arith) (w.mark_is ∙ (w.new_mark-mark.ensures.mark ∙ mark_after n me x f h k c.loop-i.marked i s w.if-i-from.false e v.1)) (v.2 h k),
+            λ h k. marks_more n me x f h k i c.if-i-from.mark zs _ (omega arith) (omega arith) (w.mark-is ∙ (w.new_mark-mark.ensures.mark ∙ mark_after n me x f h k c.loop-i.marked i s w.if-i-from.false e v.1)) (v.2 h k),
             rest,
           )
     ]
