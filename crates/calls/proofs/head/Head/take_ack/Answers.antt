@@ -40,7 +40,7 @@ returns-else-i-issuer c =
     let k = ack_of c.args.stamp c.args.issuer ns in
     let r = sym c.at-slot.ensures ∙ ap slot_of c.in-Ack.is in
     let f : (eqb c.in-Ack.i c.args.issuer && same_names (names_of c.in-Ack.ns) (names_of ns)) ≡ false = elim c.else-i-issuer.branch [
-      | else-i-issuer-via-then-i-issuer+else-is-list w ↦ and_right (eqb c.in-Ack.i c.args.issuer) (same_names (names_of c.in-Ack.ns) (names_of ns)) (sym w.is_list.ensures ∙ w.if-is_list.false)
+      | else-i-issuer-via-then-i-issuer+else-is_list w ↦ and_right (eqb c.in-Ack.i c.args.issuer) (same_names (names_of c.in-Ack.ns) (names_of ns)) (sym w.is_list.ensures ∙ w.if-is_list.false)
       | else-i-issuer-via-else-i-issuer w ↦ and_left (eqb c.in-Ack.i c.args.issuer) (same_names (names_of c.in-Ack.ns) (names_of ns)) (ne_eqb c.in-Ack.i c.args.issuer w.if-i-issuer.false)
     ] in
     record { size = refl; after = sym (ack_slot n x c.args.stamp c.args.issuer ns _ (sym c.if-not-has_places.ensures) r ∙ at_same n (model x) k c.in-Ack.i (names_of c.in-Ack.ns) false f) }

@@ -9,8 +9,8 @@ pub returns-then-not-is_asked : goal.returns-then-not-is_asked
 returns-then-not-is_asked c =
     let x = c.args.self.now in
     elim c.then-not-is_asked.branch [
-      | then-not-is-asked-via-then-not-is-asked w ↦ sym (nack_not_asked x.size.heads c.args.from c.args.stamp (asked_of c.args.to) (model x) (sym w.if-not-is_asked.ensures))
-      | then-not-is-asked-via-else-not-is-asked+then-stamp-self w ↦ sym (nack_below x.size.heads c.args.from c.args.stamp (asked_of c.args.to) (model x) w.if-stamp-self.true)
+      | then-not-is_asked-via-then-not-is_asked w ↦ sym (nack_not_asked x.size.heads c.args.from c.args.stamp (asked_of c.args.to) (model x) (sym w.if-not-is_asked.ensures))
+      | then-not-is_asked-via-else-not-is_asked+then-stamp-self w ↦ sym (nack_below x.size.heads c.args.from c.args.stamp (asked_of c.args.to) (model x) w.if-stamp-self.true)
     ]
 
 pub returns-in-Some : goal.returns-in-Some

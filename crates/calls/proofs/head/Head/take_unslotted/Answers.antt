@@ -40,7 +40,7 @@ returns-else-name-k c =
     let e = low_is x c.args.name.source in
     let k = c.in-Some.k in
     let f : (eqb c.args.name.level.number k.level.number && same_bytes (body_of c.args.body) (body_of k.body)) ≡ false = elim c.else-name-k.branch [
-      | else-name-k-via-then-name-k+else-is-body w ↦ and_right (eqb c.args.name.level.number k.level.number) (same_bytes (body_of c.args.body) (body_of k.body)) (sym w.is_body.ensures ∙ w.if-is_body.false)
+      | else-name-k-via-then-name-k+else-is_body w ↦ and_right (eqb c.args.name.level.number k.level.number) (same_bytes (body_of c.args.body) (body_of k.body)) (sym w.is_body.ensures ∙ w.if-is_body.false)
       | else-name-k-via-else-name-k w ↦ and_left (eqb c.args.name.level.number k.level.number) (same_bytes (body_of c.args.body) (body_of k.body)) (ne_eqb c.args.name.level.number k.level.number w.if-name-k.false)
     ] in
     record { size = refl; after = sym (new_near x.size.heads (model x) m _ (omega arith) (omega arith) (sym c.in-Some.ensures) ∙ pending_same x.size.heads (model x) m _ false f) }

@@ -15,8 +15,8 @@ loop-s-preserved c =
     let i = c.loop-s.s-index in
     let r = ap is_ack (queue_read s.base s.slots i _ (omega arith)) ∙ sym c.is_ack.ensures in
     elim c.if-is_ack.branch [
-      | then-is-ack w ↦ let e = acks_step q 96 s.base i true (omega arith) (r ∙ w.if-is_ack.true) in let n = w.n-is in let v = c.loop-s.invariant in (omega arith, omega arith)
-      | else-is-ack w ↦ let e = acks_step q 96 s.base i false (omega arith) (r ∙ w.if-is_ack.false) in let n = w.n-is in let v = c.loop-s.invariant in (omega arith, omega arith)
+      | then-is_ack w ↦ let e = acks_step q 96 s.base i true (omega arith) (r ∙ w.if-is_ack.true) in let n = w.n-is in let v = c.loop-s.invariant in (omega arith, omega arith)
+      | else-is_ack w ↦ let e = acks_step q 96 s.base i false (omega arith) (r ∙ w.if-is_ack.false) in let n = w.n-is in let v = c.loop-s.invariant in (omega arith, omega arith)
     ]
 
 pub returns : goal.returns

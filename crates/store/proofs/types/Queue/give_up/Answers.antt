@@ -19,7 +19,7 @@ returns-in-None c =
     let v = c.loop-i.invariant in
     record {
       answer = sym (le-leb c.args.due 1000001 (omega arith));
-      after = λ h. give_stop c.args.n c.args.due c.loop-i.self c.loop-i.-i h _ (omega arith) (v.0 h) (c.in-None.ensures.value h);
+      after = λ h. give_stop c.args.n c.args.due c.loop-i.self c.loop-i._i h _ (omega arith) (v.0 h) (c.in-None.ensures.value h);
       from = v.1;
       passed = v.2;
       low = v.3;
@@ -36,7 +36,7 @@ loop-i-preserved c =
     let y = c.forward.new.self in
     let m = c.in-Some.m in
     let f : Forward x y m = record { base = e.base; slots = e.slots; gone = e.gone } in (
-      λ h. give_more c.args.n c.args.due x c.loop-i.-i h _ (omega arith) (v.0 h) y m f (c.in-Some.ensures.value h),
+      λ h. give_more c.args.n c.args.due x c.loop-i._i h _ (omega arith) (v.0 h) y m f (c.in-Some.ensures.value h),
       λ _. omega arith,
       λ p. forward_passed x y m f c.args.due (v.2 p),
       λ p s. forward_low x y m f (omega arith) (λ u a d. v.2 p u a (omega arith)) s ∙ v.3 p s,
@@ -48,7 +48,7 @@ pub returns : goal.returns
 returns c =
     let v = c.loop-i.invariant in
     let x = c.loop-i.self in
-    let e : 96 - c.loop-i.-i ≡ 0 = omega arith in
+    let e : 96 - c.loop-i._i ≡ 0 = omega arith in
     record {
       answer = sym (le-leb c.args.due 1000001 (omega arith));
       after = λ h. sym (ap (λ k. give_up k c.args.n (part h c.args.due x)) e ∙ give_up-zero c.args.n (part h c.args.due x)) ∙ v.0 h;

@@ -6,7 +6,7 @@ use Rattle.store.proofs.types.Queue.give_up.Given as goal
 
 abbrev pub invariant-loop-i : goal.invariant-loop-i
 invariant-loop-i l =
-    ((h : Head) → give_up (96 - l.-i) l.n (part h l.due l.self) ≡ give_up 96 l.n (part h l.due l.initial.self))
+    ((h : Head) → give_up (96 - l._i) l.n (part h l.due l.self) ≡ give_up 96 l.n (part h l.due l.initial.self))
     × (l.initial.self.base ≤ l.due → l.self.base ≤ l.due)
     × (Passed l.initial.self l.due → Passed l.self l.due)
     × (Passed l.initial.self l.due → (s : ℕ) → low_of l.self s ≡ low_of l.initial.self s)

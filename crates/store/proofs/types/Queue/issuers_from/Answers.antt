@@ -25,7 +25,7 @@ loop-i-preserved c =
           let e = issuers_ack q 96 s.base i (omega arith) j _ (ack_read s i j w.in-Ack.names _ (omega arith) w.in-Ack.is) in
           let far = w.if-issuer-lt8.false in
           (ap length w.issued-is ∙ v.0, λ g h. ap (λ (ys : List Bool). get_or ys g false || among g on) w.issued-is ∙ (told_far xs j g on (omega arith) ∙ (ap (λ (is : List ℕ). get_or xs g false || among g is) (sym e) ∙ v.1 g h)))
-      | in-default w ↦
+      | in_default w ↦
           let e = issuers_other q 96 s.base i (omega arith) (other_read s i _ (omega arith) w.in_default.not-Ack) in
           (ap length w.issued-is ∙ v.0, λ g h. ap (λ (ys : List Bool). get_or ys g false || among g on) w.issued-is ∙ (ap (λ (is : List ℕ). get_or xs g false || among g is) (sym e) ∙ v.1 g h))
     ]

@@ -30,13 +30,13 @@ loop-i-preserved c =
     let r = ap full (queue_read x.base x.slots i c.index-self-i.result (omega arith)) ∙ sym c.is_full.ensures in
     let on : List ℕ = missing_from q (end_of x) (96 - (i + 1)) (x.base + (i + 1)) in
     elim c.if-not-is_full.branch [
-      | then-not-is-full w ↦
+      | then-not-is_full w ↦
           let n = w.count-is in (
             (λ j. take (n j) (w.list-is j) ++ on) ∙ lacks_one q (end_of x) x.base i (omega arith) zs _ k (omega arith) (omega arith) (r ∙ w.if-not-is_full.true) v.0,
             (λ j. drop (n j) (w.list-is j)) ∙ (rest_more zs es k (x.base + i) v.1 ∙ ap (λ m. drop m es) (sym n)),
             omega arith,
           )
-      | else-not-is-full w ↦
+      | else-not-is_full w ↦
           let n = w.count-is in (
             (λ j. take (n j) (w.list-is j) ++ on) ∙ lacks_none q (end_of x) x.base i (omega arith) (take k zs) _ (r ∙ w.if-not-is_full.false) v.0,
             (λ j. drop (n j) (w.list-is j)) ∙ (v.1 ∙ ap (λ m. drop m es) (sym n)),
