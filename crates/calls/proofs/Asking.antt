@@ -12,7 +12,7 @@ use Rattle.head.specs.Slots.{Slot, unknown, known}
 use Rattle.store.specs.declared.types.Slot.{Slot as CSlot}
 use Rattle.store.specs.declared.types.Slot.TheVariants.{Unknown, Ack as CAck, Data}
 use Rattle.store.specs.Parts.{slot_of, data_of, queue_of}
-use Rattle.calls.specs.declared.head.Head.{Head as CHead}
+use Rattle.calls.specs.declared.machine.Head.{Head as CHead}
 use Rattle.calls.specs.Asking.{with_room, count_of, marked, holders_answer, holders_scratch}
 use Rattle.calls.specs.Model.{model}
 

@@ -12,7 +12,7 @@ use Rattle.store.specs.declared.types.Kept.{Kept as CKept}
 use Rattle.store.specs.declared.types.Window.{Window}
 use Rattle.store.specs.declared.types.Inbox.{Inbox}
 use Rattle.store.specs.Parts.{kept_of, blank, window_of, pending_of, table_of, inbox_of, Most}
-use Rattle.calls.specs.declared.head.Head.{Head as CHead}
+use Rattle.calls.specs.declared.machine.Head.{Head as CHead}
 use Rattle.calls.specs.Choice.{kept_under, kept_at}
 use Rattle.calls.specs.Model.{model}
 

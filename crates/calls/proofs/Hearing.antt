@@ -15,7 +15,7 @@ use Rattle.head.specs.Hear.{own_above, same_kept, hear_slot, hear_pending, hear_
 use Rattle.store.specs.declared.types.Slot.{Slot as CSlot}
 use Rattle.store.specs.declared.types.Slot.TheVariants.{Unknown, Ack as CAck, Data}
 use Rattle.store.specs.Parts.{spans, ack_of, with_body, data_of, slot_of, queue_of, table_of, OwnAck}
-use Rattle.calls.specs.declared.head.Head.{Head as CHead}
+use Rattle.calls.specs.declared.machine.Head.{Head as CHead}
 use Rattle.calls.specs.Model.{model}
 use Rattle.head.proofs.Slots.{same_name_is}
 use Rattle.store.proofs.View.{queue_read}

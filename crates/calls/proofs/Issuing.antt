@@ -12,7 +12,7 @@ use Rattle.head.specs.Turn.{run_of, gather, to_order}
 use Rattle.head.proofs.Slots.{all_unknown_from}
 use Rattle.head.proofs.Walk.{past_last_ends}
 use Rattle.store.specs.Parts.{spans, OwnAck, Most}
-use Rattle.calls.specs.declared.head.Head.{Head as CHead}
+use Rattle.calls.specs.declared.machine.Head.{Head as CHead}
 use Rattle.calls.specs.Model.{model}
 
 -- no name of the source g has a number above b

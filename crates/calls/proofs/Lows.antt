@@ -3,7 +3,7 @@ use Rattle.std.proofs.Common.{◌≡◌, ℕ, ◌+◌, ◌-◌, ◌<◌, ◌≤�
 use Rattle.std.proofs.lemmas.Bool.{and_from, le-leb, lt-ltb}
 use Rattle.head.specs.Head.{low}
 use Rattle.store.specs.Parts.{in_window, table_of, queue_of}
-use Rattle.calls.specs.declared.head.Head.{Head as CHead}
+use Rattle.calls.specs.declared.machine.Head.{Head as CHead}
 use Rattle.calls.specs.Model.{model}
 use Rattle.store.proofs.Walks.{highest_cap}
 

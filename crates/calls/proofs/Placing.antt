@@ -10,7 +10,7 @@ use Rattle.head.proofs.Slots.{cells_above}
 use Rattle.store.specs.declared.types.Queue.{Queue as CQueue}
 use Rattle.store.specs.Parts.{queue_of, inbox_of, table_of, ack_of, low_of, Ends, Passed, Own, OwnAck}
 use Rattle.store.proofs.Placing.{laid_keeps, placed_grows, placed_is}
-use Rattle.calls.specs.declared.head.Head.{Head as CHead}
+use Rattle.calls.specs.declared.machine.Head.{Head as CHead}
 use Rattle.calls.specs.Model.{model}
 
 module _ (x : CHead) (q : CQueue) (l : List ℕ) (t i : ℕ) (ns : Names) (eb : q.base ≡ x.queue.base) (eg : q.gone ≡ x.queue.gone)

@@ -9,15 +9,16 @@ use Rattle.head.specs.Answers.{Answer, Done, done, refuse, made_it, quiet, kept,
 use Rattle.store.specs.Look.{top_of}
 use Rattle.store.specs.Puts.{puts_of}
 use Rattle.calls.specs.declared.answers.Done.{Done as CDone}
+use Rattle.calls.specs.declared.answers.Message.{Message}
 use Rattle.calls.specs.declared.answers.Submitted.{Submitted}
 use Rattle.calls.specs.declared.answers.Submitted.TheVariants.{Made}
 use Rattle.calls.specs.declared.answers.Heard.{Heard}
 use Rattle.calls.specs.declared.answers.Turned.{Turned}
-use Rattle.calls.specs.declared.answers.Turned.TheVariants as turned-case
+use Rattle.calls.specs.declared.answers.Turned.TheVariants as TurnedCase
 use Rattle.calls.specs.declared.answers.Ticked.{Ticked}
-use Rattle.calls.specs.declared.answers.Ticked.TheVariants as ticked-case
+use Rattle.calls.specs.declared.answers.Ticked.TheVariants as TickedCase
 use Rattle.calls.specs.declared.answers.Delivered.{Delivered}
-use Rattle.calls.specs.declared.answers.Delivered.TheVariants as delivered-case
+use Rattle.calls.specs.declared.answers.Delivered.TheVariants as DeliveredCase
 use Rattle.calls.specs.declared.answers.Heard.TheVariants.{Quiet, Kept, Filled, Repeat, Far, Placed, Crowded, Resent, Nothing}
 
 -- submit: what it answers and the frames that it puts
@@ -79,18 +80,18 @@ heard_before n (Err e) h = refuse e h
 -- turn, tick and deliver: what they answer
 
 abbrev pub turned : Turned → Answer
-turned turned-case.NotYours = not_yours
-turned turned-case.Nothing = nothing
-turned turned-case.Crowded = crowded
-turned (turned-case.Ordered t m) = ordered t m
+turned TurnedCase.NotYours = not_yours
+turned TurnedCase.Nothing = nothing
+turned TurnedCase.Crowded = crowded
+turned (TurnedCase.Ordered t m) = ordered t m
 
 abbrev pub ticked : Ticked → Answer
-ticked ticked-case.Idle = idle
-ticked (ticked-case.Fired k) = fired k
+ticked TickedCase.Idle = idle
+ticked (TickedCase.Fired k) = fired k
 
 abbrev pub handed : Delivered → Answer
-handed delivered-case.Waiting = waiting
-handed (delivered-case.Message m t) = delivered (message_of m.name m.body) t
+handed DeliveredCase.Waiting = waiting
+handed (DeliveredCase.Message m t) = delivered (message_of m.name m.body) t
 
 -- what a call did, by the word of its answer and the head that it leaves
 abbrev pub did : {A : Type 0} → (A → Answer) → CDone A → Head → Done
@@ -105,3 +106,8 @@ does word (Err e) h = refuse e h
 abbrev pub does_before : {A : Type 0} → ℕ → (A → Answer) → Result (CDone A) Refusal → Head → Done
 does_before n word (Ok d) h = did word d (settled n h)
 does_before n word (Err e) h = refuse e h
+
+-- the same of submit, by the message that it made
+abbrev pub makes_before : ℕ → Result Message Refusal → Head → Done
+makes_before n (Ok m) h = done n (made_it m.name.number) h (data_frame (message_of m.name m.body) ∷ [])
+makes_before n (Err e) h = refuse e h

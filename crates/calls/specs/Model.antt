@@ -4,7 +4,7 @@ use Rattle.frames.specs.declared.refusal.Refusal.{Refusal}
 use Rattle.frames.specs.declared.refusal.Refusal.TheVariants.{TooManyHeads, TooFewHeads, NoSuchHead}
 use Rattle.head.specs.Head.{Head, fresh}
 use Rattle.store.specs.Parts.{queue_of, table_of, inbox_of}
-use Rattle.calls.specs.declared.head.Head.{Head as CHead}
+use Rattle.calls.specs.declared.machine.Head.{Head as CHead}
 
 -- the fixed tables of the code as the functions of the model
 abbrev pub model : CHead → Head

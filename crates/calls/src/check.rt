@@ -7,7 +7,7 @@ ghost use Rattle.head.specs.Hear.{found, own_above, other_level, bad_name, bad_n
 ghost use Rattle.store.specs.Parts.{ack_of};
 ghost use Rattle.calls.specs.Model.{model};
 
-use crate::head::Head;
+use crate::machine::Head;
 use frames::types::{Name, Names};
 use store::same::is_twice;
 

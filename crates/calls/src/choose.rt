@@ -9,7 +9,7 @@ ghost use Rattle.calls.specs.Choice.{kept_at, sent_of};
 ghost use Rattle.calls.specs.Model.{model};
 
 use crate::answers::Message;
-use crate::head::Head;
+use crate::machine::Head;
 use frames::types::{Frame, Name, Names};
 
 impl Head {

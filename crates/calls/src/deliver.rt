@@ -8,7 +8,7 @@ ghost use Rattle.calls.specs.Answers.{did, handed};
 ghost use Rattle.calls.specs.Model.{model};
 
 use crate::answers::{Delivered, Done, Message};
-use crate::head::Head;
+use crate::machine::Head;
 use frames::types::{Body, Name};
 use store::types::Slot;
 

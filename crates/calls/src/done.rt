@@ -2,9 +2,9 @@
 ghost use Rattle.std.specs.Prelude.{◌≡◌, [], None};
 ghost use Rattle.store.specs.Look.{put_of};
 ghost use Rattle.store.specs.Puts.{puts_of};
-ghost use Rattle.calls.specs.Answers.{made_puts, heard_puts};
+ghost use Rattle.calls.specs.Answers.{heard_puts};
 
-use crate::answers::{Done, Heard, Submitted};
+use crate::answers::{Done, Heard};
 use frames::types::Frame;
 use store::types::Frames;
 
@@ -20,18 +20,6 @@ impl<A> Done<A> {
             puts: Frames::of(frame, None, None),
             issued: None,
         }
-    }
-}
-
-impl Submitted {
-    // With its Data frame to put.
-    pub fn done(self) -> Done<Submitted>
-        ensures answer { result.answer ≡ self }
-        ensures puts { puts_of result.puts ≡ made_puts self }
-        ensures issued { result.issued ≡ None }
-    {
-        let Submitted::Made { name, body } = self;
-        Done::new(self, Some(Frame::Data { name, body }))
     }
 }
 

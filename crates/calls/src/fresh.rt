@@ -3,7 +3,7 @@ ghost use Rattle.std.specs.Prelude.{◌≡◌};
 ghost use Rattle.frames.specs.Types.{meant};
 ghost use Rattle.calls.specs.Model.{in_ring, head_for};
 
-use crate::head::Head;
+use crate::machine::Head;
 use frames::refusal::Refusal;
 use frames::types::RingSize;
 use store::types::{Inbox, Queue};

@@ -9,7 +9,7 @@ ghost use Rattle.calls.specs.Model.{model};
 ghost use Rattle.calls.specs.Answers.{heard_before, heard_after};
 
 use crate::answers::Heard;
-use crate::head::Head;
+use crate::machine::Head;
 use frames::read::read;
 use frames::refusal::Refusal;
 use frames::types::{Body, Frame, Name, Names, To};

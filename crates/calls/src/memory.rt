@@ -3,7 +3,7 @@ ghost use Rattle.std.specs.Prelude.{◌≡◌};
 ghost use Rattle.calls.specs.Asking.{holders_answer, holders_scratch, missing_answer, missing_list};
 ghost use Rattle.calls.specs.Model.{model};
 
-use crate::head::Head;
+use crate::machine::Head;
 use frames::refusal::Refusal;
 use store::types::Slot;
 

@@ -5,7 +5,7 @@ ghost use Rattle.head.specs.Head.{place as m_place};
 ghost use Rattle.store.specs.Parts.{ack_of, spans, OwnAck};
 ghost use Rattle.calls.specs.Model.{model};
 
-use crate::head::Head;
+use crate::machine::Head;
 use frames::types::Names;
 
 impl Head {

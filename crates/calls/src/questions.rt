@@ -3,7 +3,7 @@ ghost use Rattle.std.specs.Prelude.{◌≡◌, ◌+◌, ◌≤◌};
 ghost use Rattle.head.specs.Head.{end as m_end, mark as m_mark};
 ghost use Rattle.calls.specs.Model.{model};
 
-use crate::head::Head;
+use crate::machine::Head;
 
 impl Head {
     // The first stamp of its queue.

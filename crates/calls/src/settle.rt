@@ -3,7 +3,7 @@ ghost use Rattle.std.specs.Prelude.{◌≡◌};
 ghost use Rattle.head.specs.Upkeep.{settled};
 ghost use Rattle.calls.specs.Model.{model};
 
-use crate::head::Head;
+use crate::machine::Head;
 
 impl Head {
     // Gives up what can be.

@@ -2,18 +2,18 @@
 ghost use Rattle.std.specs.Prelude.{◌≡◌, ℕ, suc, ◌+◌, ◌-◌, ◌<◌, ◌≤◌};
 ghost use Rattle.head.specs.Submit.{submit as m_submit};
 ghost use Rattle.calls.specs.Model.{model};
-ghost use Rattle.calls.specs.Answers.{made_before, made_after};
+ghost use Rattle.calls.specs.Answers.{does, made, made_before, made_after, makes_before};
 
-use crate::answers::Submitted;
-use crate::head::Head;
+use crate::answers::{Done, Message, Submitted};
+use crate::machine::Head;
 use frames::refusal::Refusal;
-use frames::types::{Body, Level, Name};
+use frames::types::{Body, Frame, Level, Name};
 
 impl Head {
-    // Before the upkeep.
-    fn make(&mut self, level: u8, bytes: &[u8]) -> Result<Submitted, Refusal>
+    // The new message. Before the upkeep.
+    fn compose(&mut self, level: u8, bytes: &[u8]) -> Result<Message, Refusal>
         ensures size { self.new.size ≡ self.old.size }
-        ensures after { made_before self.old.size.heads result (model self.new) ≡ m_submit self.old.size.heads level bytes.now (model self.old) }
+        ensures after { makes_before self.old.size.heads result (model self.new) ≡ m_submit self.old.size.heads level bytes.now (model self.old) }
     {
         let level = Level::new(level, self.size)?;
         let body = Body::new(bytes)?;
@@ -30,6 +30,15 @@ impl Head {
         };
         self.inbox.keep(name, body);
         self.made += 1;
+        Ok(Message { name, body })
+    }
+
+    // Before the upkeep.
+    fn make(&mut self, level: u8, bytes: &[u8]) -> Result<Submitted, Refusal>
+        ensures size { self.new.size ≡ self.old.size }
+        ensures after { made_before self.old.size.heads result (model self.new) ≡ m_submit self.old.size.heads level bytes.now (model self.old) }
+    {
+        let Message { name, body } = self.compose(level, bytes)?;
         Ok(Submitted::Made { name, body })
     }
 
@@ -41,5 +50,16 @@ impl Head {
         let answer = self.make(level, bytes)?;
         self.settle();
         Ok(answer)
+    }
+
+    // A new message of this head, with its Data frame to put.
+    pub fn submit_done(&mut self, level: u8, bytes: &[u8]) -> Result<Done<Submitted>, Refusal>
+        ensures size { self.new.size ≡ self.old.size }
+        ensures after { does made result (model self.new) ≡ m_submit self.old.size.heads level bytes.now (model self.old) }
+    {
+        let Message { name, body } = self.compose(level, bytes)?;
+        self.settle();
+        let frame = Frame::Data { name, body };
+        Ok(Done::new(Submitted::Made { name, body }, Some(frame)))
     }
 }

@@ -10,7 +10,7 @@ ghost use Rattle.calls.specs.Answers.{did, ticked};
 ghost use Rattle.calls.specs.Model.{model};
 
 use crate::answers::{Done, Ticked};
-use crate::head::Head;
+use crate::machine::Head;
 use frames::types::{Frame, Names};
 use store::look::{asked, wait};
 use store::types::Frames;

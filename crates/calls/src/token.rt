@@ -6,7 +6,7 @@ ghost use Rattle.head.specs.Turn.{new_ack, to_order};
 ghost use Rattle.store.specs.Parts.{ack_of};
 ghost use Rattle.calls.specs.Model.{model};
 
-use crate::head::Head;
+use crate::machine::Head;
 use frames::types::Names;
 use store::look::Top;
 

@@ -5,7 +5,7 @@ ghost use Rattle.calls.specs.Answers.{does, does_before, turned};
 ghost use Rattle.calls.specs.Model.{model};
 
 use crate::answers::{Done, Turned};
-use crate::head::Head;
+use crate::machine::Head;
 use frames::refusal::Refusal;
 use store::types::Frames;
 

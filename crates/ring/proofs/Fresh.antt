@@ -4,7 +4,7 @@ use Rattle.std.proofs.lemmas.List.{get_or_past, length-map, length-set}
 use Rattle.std.proofs.lemmas.Bool.{cases_eq, cases_lt}
 use Rattle.head.specs.Head.{Head, fresh}
 use Rattle.head.specs.Ranges.{slot_ok}
-use Rattle.calls.specs.declared.head.Head.{Head as CHead}
+use Rattle.calls.specs.declared.machine.Head.{Head as CHead}
 use Rattle.calls.specs.Model.{model}
 use Rattle.ring.specs.Table.{head_at, kept_ok}
 use Rattle.ring.proofs.Tables.{Facts, at_place, size_set_same, size_set_other, head_set}

@@ -10,7 +10,7 @@ use Rattle.head.specs.Head.{Head, fresh}
 use Rattle.head.specs.Answers.{Answer, Done, refused}
 use Rattle.head.specs.Ranges.{InRange, Writable}
 use Rattle.calls.specs.declared.answers.Done.{Done as CDone}
-use Rattle.calls.specs.declared.head.Head.{Head as CHead}
+use Rattle.calls.specs.declared.machine.Head.{Head as CHead}
 use Rattle.calls.specs.Model.{model}
 use Rattle.calls.specs.Answers.{does}
 use Rattle.ring.specs.declared.types.Heads.{Heads}

@@ -4,7 +4,7 @@ use Rattle.std.proofs.lemmas.List.{get_or-map, get_or-set_same, get_or-set_other
 use Rattle.std.proofs.lemmas.Bool.{cases_eq, cond_both, eqb-true}
 use Rattle.head.specs.Head.{Head, Kept, fresh}
 use Rattle.head.specs.Ranges.{InRange, slot_ok}
-use Rattle.calls.specs.declared.head.Head.{Head as CHead}
+use Rattle.calls.specs.declared.machine.Head.{Head as CHead}
 use Rattle.calls.specs.Model.{model}
 use Rattle.ring.specs.declared.types.Heads.{Heads}
 use Rattle.ring.specs.Ring.{put_head}

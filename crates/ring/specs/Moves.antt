@@ -6,7 +6,7 @@ use Rattle.links.specs.Meaning.{Waits}
 use Rattle.head.specs.Answers.{Answer, refused}
 use Rattle.store.specs.Puts.{puts_of}
 use Rattle.calls.specs.declared.answers.Done.{Done as CDone}
-use Rattle.calls.specs.declared.head.Head.{Head as CHead}
+use Rattle.calls.specs.declared.machine.Head.{Head as CHead}
 use Rattle.calls.specs.Model.{model}
 use Rattle.calls.specs.Answers.{does}
 use Rattle.ring.specs.declared.types.Heads.{Heads}

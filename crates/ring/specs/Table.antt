@@ -3,7 +3,7 @@ use Rattle.std.specs.Prelude.{◌≡◌, ℕ, ◌<◌, ◌≤◌, Bool, true, Li
 use Rattle.frames.specs.Values.{data_frame, frame_ok}
 use Rattle.head.specs.Head.{Head, Kept, fresh}
 use Rattle.head.specs.Ranges.{kept_message, slot_ok}
-use Rattle.calls.specs.declared.head.Head.{Head as CHead}
+use Rattle.calls.specs.declared.machine.Head.{Head as CHead}
 use Rattle.calls.specs.Model.{model}
 
 -- the head g: at the start where the table has none

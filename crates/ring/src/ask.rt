@@ -8,7 +8,7 @@ ghost use Rattle.ring.specs.Table.{head_at};
 ghost use Rattle.ring.specs.Moves.{at_rest};
 
 use crate::types::Heads;
-use calls::head::Head;
+use calls::machine::Head;
 use frames::refusal::Refusal;
 
 impl Heads {

@@ -8,7 +8,7 @@ ghost use Rattle.ring.specs.Table.{head_at};
 ghost use Rattle.ring.specs.Starting.{Started};
 
 use crate::types::{Heads, NotStarted, Ring, Roster};
-use calls::head::Head;
+use calls::machine::Head;
 use frames::refusal::Refusal;
 use frames::types::RingSize;
 use links::link::Link;

@@ -6,7 +6,7 @@ ghost use Rattle.ring.specs.Ring.{submits, hears, turns, ticks, delivers};
 ghost use Rattle.ring.specs.Moves.{Acted};
 
 use calls::answers::{Delivered, Done, Heard, Submitted, Ticked, Turned};
-use calls::head::Head;
+use calls::machine::Head;
 use frames::refusal::Refusal;
 use frames::types::Packet;
 
@@ -19,7 +19,7 @@ pub(crate) fn submit_at(
     requires { head < length heads.old }
     ensures { Acted head (submits level body.now) None submitted result heads.old heads.new }
 {
-    Ok(heads[head].submit(level, body)?.done())
+    heads[head].submit_done(level, body)
 }
 
 pub(crate) fn hear_at(

@@ -2,7 +2,7 @@
 ghost use Rattle.std.specs.Prelude.{◌≡◌, ◌≤◌, length};
 ghost use Rattle.ring.specs.Table.{Sized, Numbered, KeptRanged, SlotsRanged};
 
-use calls::head::Head;
+use calls::machine::Head;
 use frames::refusal::Refusal;
 use frames::types::RingSize;
 

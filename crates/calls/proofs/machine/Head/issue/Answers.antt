@@ -1,0 +1,29 @@
+use Rattle.std.proofs.Common.{◌≡◌, sym, refl, ap, ◌∙◌}
+use Rattle.frames.specs.Types.{names_of}
+use Rattle.frames.specs.Values.{Ack}
+use Rattle.head.specs.Head.{Head, place}
+use Rattle.store.specs.Parts.{ack_of}
+use Rattle.calls.specs.Model.{model}
+use Rattle.calls.proofs.Issuing.{new_spans, new_unknown, new_stamps, order_made, made_ack}
+use Rattle.calls.proofs.machine.Head.issue.Goals as goal
+
+pub place-requires : goal.place-requires
+place-requires c =
+    let x = c.args.self.now in
+    let ns = c.args.names in
+    let t = c.end-stamp.result in
+    let e = c.end-stamp.ensures.value in
+    record {
+      room = new_spans x ns t e c.requires.room;
+      stamps = new_stamps x ns t e c.requires.room c.requires.stamps;
+      own = made_ack x.me x.made (ack_of t x.me ns) (order_made x.size.heads x.me x.made (model x) (names_of ns) x.unmade c.requires.chosen);
+      free = new_unknown x ns t e c.requires.room;
+    }
+
+pub returns : goal.returns
+returns c =
+    let x = c.args.self.now in
+    let ns = names_of c.args.names in
+    let e = c.end-stamp.ensures.value in
+    let a : ack_of c.end-stamp.result x.me c.args.names ≡ _ = λ j. record { stamp = e j; issuer = x.me; names = ns } in
+    record { size = c.place.ensures.size; ack = a; names = refl; after = c.place.ensures.after ∙ ap (place (model x)) a }
