@@ -6,9 +6,9 @@ ghost use Rattle.head.specs.Queue.{names_it};
 ghost use Rattle.head.specs.Hear.{hear_slot, hear_unslotted, hear_data as m_hear_data, hear_ack as m_hear_ack, hear_nack as m_hear_nack, hear as m_hear, asks, own_above};
 ghost use Rattle.store.specs.Parts.{ack_of};
 ghost use Rattle.calls.specs.Model.{model};
-ghost use Rattle.calls.specs.Answers.{heard_before, heard_after};
+ghost use Rattle.calls.specs.Answers.{did, does, heard, heard_before, heard_after};
 
-use crate::answers::Heard;
+use crate::answers::{Done, Heard};
 use crate::machine::Head;
 use frames::read::read;
 use frames::refusal::Refusal;
@@ -174,15 +174,6 @@ impl Head {
         answer
     }
 
-    // No packet came.
-    pub fn hear_nothing(&mut self) -> Heard
-        ensures size { self.new.size ≡ self.old.size }
-        ensures after { heard_after (Ok result) (model self.new) ≡ m_hear self.old.size.heads None (model self.old) }
-    {
-        self.settle();
-        Heard::Quiet
-    }
-
     // The bytes of a packet: what they are decides, and within its kind the first rule that applies.
     pub fn hear(&mut self, bytes: &[u8]) -> Result<Heard, Refusal>
         ensures size { self.new.size ≡ self.old.size }
@@ -197,5 +188,23 @@ impl Head {
             } => self.hear_ack(stamp, issuer, names),
             Frame::Nack { from, to, stamp } => Ok(self.hear_nack(from, to, stamp)),
         }
+    }
+
+    // The same, with the frame to put.
+    pub fn hear_done(&mut self, bytes: &[u8]) -> Result<Done<Heard>, Refusal>
+        ensures size { self.new.size ≡ self.old.size }
+        ensures after { does heard result (model self.new) ≡ m_hear self.old.size.heads (Some bytes.now) (model self.old) }
+    {
+        let answer = self.hear(bytes)?;
+        Ok(answer.done())
+    }
+
+    // No packet came.
+    pub fn hear_nothing(&mut self) -> Done<Heard>
+        ensures size { self.new.size ≡ self.old.size }
+        ensures after { did heard result (model self.new) ≡ m_hear self.old.size.heads None (model self.old) }
+    {
+        self.settle();
+        Done::new(Heard::Quiet, None)
     }
 }

@@ -41,19 +41,10 @@ module _ (n : ℕ) (hs : List CHead) (f : FreshTo n 8 hs) where
 
   pub fresh_facts : n ≤ 8 → Facts n hs
   unfolding fresh
-  fresh_facts m = (
-    f.0,
-    (
-      (λ (k : ℕ) (b : k < n). (f.1 k (omega arith)).1 b),
-      (
-        (λ (k : ℕ) (b : k < n). subst (λ (v : Head). (v.me < n) × (1 ≤ v.base)) (sym (fresh_at k)) (b, omega arith)),
-        (
-          (λ (k s i : ℕ). ap (λ (v : Head). kept_ok n s i (v.pending s i)) (fresh_at k)),
-          (
-            (λ (k t : ℕ). ap (λ (v : Head). slot_ok n t (v.queue t)) (fresh_at k)),
-            tt,
-          ),
-        ),
-      ),
-    ),
-  )
+  fresh_facts m = record {
+    places = f.0;
+    sized = λ (k : ℕ) (b : k < n). (f.1 k (omega arith)).1 b;
+    numbered = λ (k : ℕ) (b : k < n). subst (λ (v : Head). (v.me < n) × (1 ≤ v.base)) (sym (fresh_at k)) (b, omega arith);
+    kept = λ (k s i : ℕ). ap (λ (v : Head). kept_ok n s i (v.pending s i)) (fresh_at k);
+    slots = λ (k t : ℕ). ap (λ (v : Head). slot_ok n t (v.queue t)) (fresh_at k);
+  }

@@ -13,10 +13,10 @@ use Rattle.ring.proofs.Advance.{put_same, put_other}
 
 -- what is known of the heads of a ring
 abbrev pub Facts : ℕ → List CHead → Type 0
-Facts n hs = (length hs ≡ 8) × (Sized n hs × (Numbered n hs × (KeptRanged n hs × (SlotsRanged n hs × Unit {0}))))
+Facts n hs = record { places : length hs ≡ 8; sized : Sized n hs; numbered : Numbered n hs; kept : KeptRanged n hs; slots : SlotsRanged n hs }
 
 pub facts : (x : Heads) → Facts x.size.heads x.all
-facts x = (x.places, (x.sized, (x.numbered, (x.kept, (x.slots, tt)))))
+facts x = record { places = x.places; sized = x.sized; numbered = x.numbered; kept = x.kept; slots = x.slots }
 
 -- the head at a place
 pub at_place : (hs : List CHead) (g : ℕ) (x : CHead) → g < length hs → get_or hs g x ≡ x → head_at hs g ≡ model x
@@ -28,10 +28,10 @@ size_at n hs g x h e = get_or-map (λ (h : CHead). h.size.heads) hs g x n h ∙ 
 
 pub ranged_at : (n : ℕ) (hs : List CHead) → Facts n hs → (g : ℕ) → g < n → InRange n (head_at hs g)
 ranged_at n hs f g b = record {
-  one_of_n = (f.1.1.0 g b).0;
-  from_one = (f.1.1.0 g b).1;
-  pending_ok = λ s k p e. subst (λ (o : Option Kept). kept_ok n s k o ≡ true) e (f.1.1.1.0 g s k);
-  slots_ok = f.1.1.1.1.0 g;
+  one_of_n = (f.numbered g b).0;
+  from_one = (f.numbered g b).1;
+  pending_ok = λ s k p e. subst (λ (o : Option Kept). kept_ok n s k o ≡ true) e (f.kept g s k);
+  slots_ok = f.slots g;
 }
 
 -- a fact of one head and of every other
@@ -71,19 +71,11 @@ module _ (hs : List CHead) (g : ℕ) (y : CHead) (h : g < length hs) where
   -- a head that keeps its size and is in its ranges keeps what is known
   pub facts_set : (n : ℕ) → Facts n hs → y.size.heads ≡ n → InRange n (model y) → Facts n (set hs g y)
   facts_set n f s r =
-      let o : Facts n hs = f in (
-        length-set hs g y ∙ o.0,
-        (
-          (λ (k : ℕ) (b : k < n). elim (cases_eq k g) [ inl z ↦ size_set_same n k z ∙ s | inr z ↦ size_set_other n k z ∙ o.1.0 k b ]),
-          (
-            subst (λ (v : ℕ → Head). (k : ℕ) → k < n → ((v k).me < n) × (1 ≤ (v k).base)) (sym head_set) (put_both (λ (k : ℕ) (v : Head). k < n → (v.me < n) × (1 ≤ v.base)) (head_at hs) g (model y) (λ _. (r.one_of_n, r.from_one)) o.1.1.0),
-            (
-              subst (λ (v : ℕ → Head). (k i j : ℕ) → kept_ok n i j ((v k).pending i j) ≡ true) (sym head_set) (put_both (λ (k : ℕ) (v : Head). (i j : ℕ) → kept_ok n i j (v.pending i j) ≡ true) (head_at hs) g (model y) (λ i j. all_kept n (model y) r i j ((model y).pending i j) refl) o.1.1.1.0),
-              (
-                subst (λ (v : ℕ → Head). (k t : ℕ) → slot_ok n t ((v k).queue t) ≡ true) (sym head_set) (put_both (λ (k : ℕ) (v : Head). (t : ℕ) → slot_ok n t (v.queue t) ≡ true) (head_at hs) g (model y) r.slots_ok o.1.1.1.1.0),
-                tt,
-              ),
-            ),
-          ),
-        ),
-      )
+      let o : Facts n hs = f in
+      record {
+        places = length-set hs g y ∙ o.places;
+        sized = (λ (k : ℕ) (b : k < n). elim (cases_eq k g) [ inl z ↦ size_set_same n k z ∙ s | inr z ↦ size_set_other n k z ∙ o.sized k b ]);
+        numbered = subst (λ (v : ℕ → Head). (k : ℕ) → k < n → ((v k).me < n) × (1 ≤ (v k).base)) (sym head_set) (put_both (λ (k : ℕ) (v : Head). k < n → (v.me < n) × (1 ≤ v.base)) (head_at hs) g (model y) (λ _. (r.one_of_n, r.from_one)) o.numbered);
+        kept = subst (λ (v : ℕ → Head). (k i j : ℕ) → kept_ok n i j ((v k).pending i j) ≡ true) (sym head_set) (put_both (λ (k : ℕ) (v : Head). (i j : ℕ) → kept_ok n i j (v.pending i j) ≡ true) (head_at hs) g (model y) (λ i j. all_kept n (model y) r i j ((model y).pending i j) refl) o.kept);
+        slots = subst (λ (v : ℕ → Head). (k t : ℕ) → slot_ok n t ((v k).queue t) ≡ true) (sym head_set) (put_both (λ (k : ℕ) (v : Head). (t : ℕ) → slot_ok n t (v.queue t) ≡ true) (head_at hs) g (model y) r.slots_ok o.slots);
+      }

@@ -31,8 +31,8 @@ pub(crate) fn hear_at(
     ensures { Acted head hears (taken_of packet) heard result heads.old heads.new }
 {
     match packet {
-        None => Ok(heads[head].hear_nothing().done()),
-        Some(packet) => Ok(heads[head].hear(packet.as_slice())?.done()),
+        None => Ok(heads[head].hear_nothing()),
+        Some(packet) => heads[head].hear_done(packet.as_slice()),
     }
 }
 

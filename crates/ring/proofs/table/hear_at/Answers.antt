@@ -16,4 +16,4 @@ pub returns-in-Some : goal.returns-in-Some
 unfolding perform
 returns-in-Some c =
     let x = get_or c.args.heads.now c.args.head c.index-heads-head-in-Some.result in
-    acted c.args.head hears (taken_of c.args.packet) heard c.hear.result c.args.heads.now c.index-heads-head-in-Some.result c.hear.new.self c.index-heads-head-in-Some.is c.hear.ensures.size (c.hear.ensures.after ∙ (ap (λ b. perform x.size.heads hears (Some b) (model x)) c.as_slice.ensures ∙ ap (λ p. perform x.size.heads hears (taken_of p) (model x)) (sym c.in-Some.is)))
+    acted c.args.head hears (taken_of c.args.packet) heard c.hear_done.result c.args.heads.now c.index-heads-head-in-Some.result c.hear_done.new.self c.index-heads-head-in-Some.is c.hear_done.ensures.size (c.hear_done.ensures.after ∙ (ap (λ b. perform x.size.heads hears (Some b) (model x)) c.as_slice.ensures ∙ ap (λ p. perform x.size.heads hears (taken_of p) (model x)) (sym c.in-Some.is)))
