@@ -1,5 +1,6 @@
 -- A list of calls, one after another.
-use Rattle.std.proofs.Common.{◌≡◌, ℕ, List, [], ◌∷◌, ◌++◌, Err, Result, sym, refl, ap, ◌∙◌, subst}
+use Rattle.std.proofs.Common.{◌≡◌, ℕ, ◌+◌, ◌<◌, List, [], ◌∷◌, ◌++◌, length, take, set, get_or, Err, Result, sym, refl, ap, ◌∙◌, subst}
+use Rattle.std.proofs.lemmas.List.{take_more, take_more_set}
 use Rattle.frames.specs.declared.types.RingSize.{RingSize}
 use Rattle.links.specs.Meaning.{Waits}
 use Rattle.frames.specs.declared.refusal.Refusal.{Refusal}
@@ -33,3 +34,9 @@ run_more (p ∷ ps) (y ∷ ys) es hs w ms u ks v q x t r m h =
     let first = r.2 in
     let s : Trip r.0.size.heads (first.event ∷ es) (ring_of r.0 r.1) = subst (λ (z : RingSize). Trip z.heads (first.event ∷ es) (ring_of r.0 r.1)) (sym first.size) r.4 in
     (r.0, r.1, first, r.3, r.4, r.5, run_more ps ys (first.event ∷ es) r.0 r.1 ms u ks v q x s r.6 m h)
+
+-- the call at a place of the list is made, and its outcome stands at that place
+pub run_on : (rs : List Request) (os : List Outcome) (i : ℕ) (d : Request) (x : Outcome) (es : List Event) (hs : Heads) (w : Waits) (ms : Heads) (u : Waits) (ks : Heads) (v : Waits) → i < length rs → i < length os → Trip hs.size.heads es (ring_of hs w)
+    → LawfulRun (take i rs) (take i os) es hs w ms u → Moved ms u (get_or rs i d).head (call_of (get_or rs i d).call) (answered word_of x.result) ks v → x.head ≡ (get_or rs i d).head → LawfulRun (take (i + 1) rs) (take (i + 1) (set os i x)) es hs w ks v
+run_on rs os i d x es hs w ms u ks v b o t r m h =
+    rw (take_more rs i d b, take_more_set os i x o) (run_more (take i rs) (take i os) es hs w ms u ks v (get_or rs i d) x t r m h)
