@@ -21,7 +21,7 @@ mod tests {
             temperature: Temperature { hundredths: -1850 },
         };
         let body = encode(&reading)?;
-        assert!(rt; body.as_slice() == [0x01, 0x04, 0xF8, 0xC6]);
+        assert!(rt; body.as_slice() == [0x01, 0x04, 0xF8, 0xC6].as_slice());
         assert_eq!(rt; decode::<Reading>(&body)?, reading);
         Ok(())
     }
@@ -39,7 +39,7 @@ mod tests {
             compartment: 5,
             open: true,
         })?;
-        assert!(rt; body.as_slice() == [0x02, 0x05, 0x01]);
+        assert!(rt; body.as_slice() == [0x02, 0x05, 0x01].as_slice());
         Ok(())
     }
 

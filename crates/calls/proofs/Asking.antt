@@ -8,12 +8,12 @@ use Rattle.frames.specs.declared.types.Name.{Name as CName}
 use Rattle.head.specs.Head.{Head}
 use Rattle.head.specs.Deliver.{holders, orderer}
 use Rattle.head.specs.Questions.{Holders, ask_holders, holders_at, marks_from}
-use Rattle.head.specs.Slots.{Slot, unknown, known}
+use Rattle.head.specs.Slots.{unknown, known}
 use Rattle.store.specs.declared.types.Slot.{Slot as CSlot}
 use Rattle.store.specs.declared.types.Slot.TheVariants.{Unknown, Ack as CAck, Data}
 use Rattle.store.specs.Parts.{slot_of, data_of, queue_of}
 use Rattle.calls.specs.declared.machine.Head.{Head as CHead}
-use Rattle.calls.specs.Asking.{with_room, count_of, marked, holders_answer, holders_scratch}
+use Rattle.calls.specs.Asking.{count_of, marked, holders_answer, holders_scratch}
 use Rattle.calls.specs.Model.{model}
 
 -- a count, or too little memory

@@ -1,5 +1,5 @@
 -- The rules of hear, one by one.
-use Rattle.std.proofs.Common.{◌≡◌, ℕ, suc, ◌+◌, ◌-◌, ◌<◌, ◌≤◌, max, Bool, true, false, cond, not, ◌&&◌, eqb, ltb, leb, ◌⊎◌, List, [], ◌∷◌, get_or, Some, None, Option, sym, refl, ap, ◌∙◌, inl, inr, arith}
+use Rattle.std.proofs.Common.{◌≡◌, ℕ, suc, ◌+◌, ◌<◌, ◌≤◌, max, Bool, true, false, cond, not, ◌&&◌, eqb, ltb, leb, ◌⊎◌, List, [], ◌∷◌, get_or, Some, None, Option, sym, refl, ap, ◌∙◌, inl, inr, arith}
 use Rattle.std.proofs.lemmas.Bool.{eq-eqb, leb-false, cases_Bool, ne_eqb, and_left, le-leb, lt-leb, lt-ltb, le-ltb, or_parts, not-false, ltb-false}
 use Rattle.frames.specs.declared.types.Name.{Name as CName}
 use Rattle.frames.specs.declared.types.Names.{Names}
@@ -7,7 +7,7 @@ use Rattle.frames.specs.declared.types.Body.{Body}
 use Rattle.frames.specs.declared.refusal.Refusal.TheVariants.{Contradiction}
 use Rattle.frames.specs.Values.{Name, Message, Ack}
 use Rattle.frames.specs.Types.{name_of, message_of, body_of}
-use Rattle.head.specs.Slots.{Slot, unknown, ack, bare, whole, named, same_bytes, same_message, same_names, size, cells, nth_slot, twice}
+use Rattle.head.specs.Slots.{Slot, ack, bare, whole, named, same_bytes, same_message, same_names, size, twice}
 use Rattle.head.specs.Queue.{Queue, names_it, place_of, all_unknown, raise}
 use Rattle.head.specs.Head.{Head, Kept, low, fill, place}
 use Rattle.head.specs.Answers.{Done, done, refuse, repeat, filled, far, crowded, placed}

@@ -1,18 +1,18 @@
 -- The rule of a NACK, and what the bytes of a packet are heard as.
-use Rattle.std.proofs.Common.{◌≡◌, ℕ, ◌+◌, ◌<◌, ◌≤◌, Bool, true, false, not, ◌&&◌, eqb, leb, List, [], length, get_or, Some, Ok, Err, Result, sym, refl, ap, ◌∙◌, arith, w8, Fits}
+use Rattle.std.proofs.Common.{◌≡◌, ℕ, ◌+◌, ◌<◌, ◌≤◌, Bool, true, false, not, ◌&&◌, eqb, leb, List, [], length, get_or, Some, Ok, Result, sym, ap, ◌∙◌, arith, w8, Fits}
 use Rattle.std.proofs.lemmas.List.Elements.{All-from_get_or}
-use Rattle.std.proofs.lemmas.Bool.{and_left, and_right, and_parts, and_from, le-leb, lt-leb}
+use Rattle.std.proofs.lemmas.Bool.{and_right, and_parts, and_from, le-leb, lt-leb}
 use Rattle.std.proofs.lemmas.Bool.Decides.{nat_tests}
 use Rattle.frames.specs.declared.refusal.Refusal.{Refusal}
 use Rattle.frames.specs.declared.types.Names.{Names}
-use Rattle.frames.specs.Values.{Asked, Ack, Frame, ack_frame, frame_ok}
+use Rattle.frames.specs.Values.{Asked, Frame, ack_frame, frame_ok}
 use Rattle.frames.specs.Types.{names_of}
 use Rattle.frames.specs.Reading.{read}
 use Rattle.frames.specs.Laws.{Byte}
 use Rattle.frames.proofs.Laws.{writes_back}
 use Rattle.frames.proofs.Naming.{length_names_of}
 use Rattle.head.specs.Head.{Head}
-use Rattle.head.specs.Answers.{Done, done, nothing}
+use Rattle.head.specs.Answers.{done, nothing}
 use Rattle.head.specs.Hear.{asks, frames_of, resend, hear_nack, hear_read, hear}
 use Rattle.store.specs.Parts.{ack_of}
 use Rattle.calls.proofs.Choosing.{pick}

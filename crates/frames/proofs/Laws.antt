@@ -1,16 +1,16 @@
 -- Writing and reading undo one another, both ways.
-use Rattle.std.proofs.Common.{◌≡◌, ℕ, zero, suc, ◌+◌, ◌*◌, ◌/◌, ◌%◌, ◌<◌, ◌≤◌, Bool, true, false, cond, ◌&&◌, eqb, ltb, leb, ◌⊎◌, List, [], ◌∷◌, ◌++◌, length, get_or, take, drop, Ok, Err, All, Result, sym, refl, ap, ◌∙◌, subst, inl, inr, ⊎_elim, add-zero, arith, length-drop}
+use Rattle.std.proofs.Common.{◌≡◌, ℕ, zero, suc, ◌+◌, ◌*◌, ◌/◌, ◌%◌, ◌<◌, ◌≤◌, Bool, true, false, cond, ◌&&◌, eqb, leb, ◌⊎◌, List, [], ◌∷◌, ◌++◌, length, get_or, drop, Ok, Err, All, Result, sym, refl, ap, ◌∙◌, subst, inl, inr, ⊎_elim, add-zero, arith, length-drop}
 use Rattle.std.proofs.lemmas.List.{drop_more, get_or-drop, drop_all}
 use Rattle.std.proofs.lemmas.List.Elements.{All-drop}
 use Rattle.std.proofs.lemmas.Bool.Decides.{nat_tests}
-use Rattle.std.proofs.lemmas.Bool.{and_parts, and_from, le-leb, eq-eqb, ne_eqb, leb-true, eqb-true, cond-true, cond-false, cases_Bool}
+use Rattle.std.proofs.lemmas.Bool.{and_parts, and_from, le-leb, eq-eqb, ne_eqb, eqb-true, cond-true, cond-false, cases_Bool}
 use Rattle.std.specs.List.{flat_map}
 use Rattle.frames.specs.declared.refusal.Refusal.{Refusal}
 use Rattle.frames.specs.declared.refusal.Refusal.TheVariants.{NotAFrame, FieldOutOfRange}
 use Rattle.frames.specs.Bounds.{after}
-use Rattle.frames.specs.Values.{Name, Message, Ack, Frame, Asked, one, everyone, data_frame, ack_frame, nack_frame, name_ok, names_ok, asked_ok, frame_ok}
+use Rattle.frames.specs.Values.{Name, Frame, Asked, one, everyone, data_frame, ack_frame, nack_frame, name_ok, names_ok, asked_ok, frame_ok}
 use Rattle.frames.specs.Written.{word_then, name_bytes, asked_byte, written}
-use Rattle.frames.specs.Reading.{word_at, name_in, names_in, asked_in, data_in, ack_in, nack_in, ranged, counted, read_data, read_ack, read_nack, read}
+use Rattle.frames.specs.Reading.{word_at, name_in, names_in, asked_in, data_in, ack_in, nack_in, ranged, counted, read_data, read_ack, read_nack}
 use Rattle.frames.specs.Laws.{Byte, ReadsBack, WritesBack}
 use Rattle.frames.proofs.Fronts.{length_names}
 use Rattle.frames.proofs.Steps.{length_names_in}

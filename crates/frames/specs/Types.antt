@@ -1,7 +1,6 @@
 -- What the types of the code mean, and what stands in the places that they do not use.
 use Rattle.std.specs.Prelude.{◌≡◌, ℕ, ◌-◌, List, map, take, drop, replicate, Ok, Err, Result}
 use Rattle.frames.specs.declared.refusal.Refusal.{Refusal}
-use Rattle.frames.specs.declared.types.Level.{Level}
 use Rattle.frames.specs.declared.types.Name.{Name as CName}
 use Rattle.frames.specs.declared.types.Names.{Names}
 use Rattle.frames.specs.declared.types.Body.{Body}

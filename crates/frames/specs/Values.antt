@@ -1,5 +1,5 @@
 -- What is meant by a name, a message, an ACK and a frame, apart from how they are stored or sent.
-use Rattle.std.specs.Prelude.{ℕ, ◌+◌, Bool, true, false, ◌&&◌, ◌||◌, List, [], ◌∷◌, length, nat_le, nat_lt}
+use Rattle.std.specs.Prelude.{ℕ, ◌+◌, Bool, true, ◌&&◌, List, [], ◌∷◌, length, nat_le, nat_lt}
 use Rattle.frames.specs.Bounds.{level_ok, number_ok, stamp_ok, body_length_ok, count_ok}
 
 -- a message by its source, its number there and its level

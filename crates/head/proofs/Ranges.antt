@@ -8,7 +8,7 @@ use Rattle.frames.specs.Reading.{ack_in, counted, data_in, nack_in, ranged, read
 use Rattle.frames.specs.Values.{Ack, Asked, Frame, Message, Name, ack_frame, asked_ok, data_frame, everyone, frame_ok, nack_frame, name_ok, names_ok, one}
 use Rattle.frames.specs.declared.refusal.Refusal.{Refusal}
 use Rattle.frames.specs.declared.refusal.Refusal.TheVariants.{FieldOutOfRange, NotAFrame}
-use Rattle.head.specs.Answers.{Answer, delivered, done, fired, made_it, not_yours, ordered, refuse}
+use Rattle.head.specs.Answers.{Answer, delivered, done, fired, made_it, ordered, refuse}
 use Rattle.head.specs.Deliver.{deliver, hand_over, holders, past_acks}
 use Rattle.head.specs.Head.{Head, Kept, end, fill, fill_in, filled_by, fresh, holds, keep, low, mark, place, room, set_slots, stamps_left, sweep, top, with_clock, with_due, with_made}
 use Rattle.head.specs.Hear.{asks, contradicts, frames_of, hear, hear_ack, hear_at, hear_data, hear_known, hear_nack, hear_new, hear_pending, hear_read, hear_slot, own_above, resend, same_kept}

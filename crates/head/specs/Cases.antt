@@ -1,5 +1,5 @@
 -- Worked cases: three heads, unless said. Packets are in decimal.
-use Rattle.std.specs.Prelude.{◌≡◌, ℕ, zero, suc, List, [], ◌∷◌, ◌++◌, map, negsuc, Some, Ok, Err}
+use Rattle.std.specs.Prelude.{◌≡◌, ℕ, zero, suc, List, [], ◌∷◌, map, negsuc, Some, Ok, Err}
 use Rattle.frames.specs.declared.refusal.Refusal.TheVariants.{BadLevel, TooManyUnordered, NoDataSlot, FieldOutOfRange}
 use Rattle.frames.specs.Bounds.{needs}
 use Rattle.frames.specs.Values.{Message, Asked, one, everyone}

@@ -1,5 +1,5 @@
 -- What a head keeps, what is read off it, and how single parts of it change.
-use Rattle.std.specs.Prelude.{ℕ, suc, ◌+◌, Bool, true, false, cond, ◌&&◌, ◌||◌, List, [], ◌∷◌, Some, None, Option, ◌==◌, nat_le}
+use Rattle.std.specs.Prelude.{ℕ, ◌+◌, Bool, false, cond, ◌&&◌, ◌||◌, List, [], ◌∷◌, Some, None, Option, ◌==◌, nat_le}
 use Rattle.frames.specs.Bounds.{after, stamp_ok}
 use Rattle.frames.specs.Values.{Name, Message, Ack}
 use Rattle.head.specs.Slots.{Slot, unknown, ack, bare, whole, known, full, over, cells}

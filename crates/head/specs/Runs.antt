@@ -3,7 +3,6 @@ use Rattle.std.specs.Prelude.{ℕ, cond, List, [], ◌∷◌, ◌++◌, map, len
 use Rattle.std.specs.List.{flat_map}
 use Rattle.frames.specs.declared.refusal.Refusal.{Refusal}
 use Rattle.frames.specs.Refusals.{number_of}
-use Rattle.frames.specs.Values.{Message}
 use Rattle.frames.specs.Written.{written}
 use Rattle.head.specs.Head.{Head, mark, end}
 use Rattle.head.specs.Answers.{Answer, Done}

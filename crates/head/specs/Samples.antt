@@ -1,7 +1,7 @@
 -- Three runs of random calls, with what each call shows.
 use Rattle.std.specs.Prelude.{◌≡◌, ℕ, List, [], ◌∷◌, Some, None}
 use Rattle.head.specs.Head.{fresh}
-use Rattle.head.specs.Runs.{Move, submits, hears, turns, ticks, delivers, asks_missing, asks_holders, run}
+use Rattle.head.specs.Runs.{Move, submits, hears, turns, ticks, delivers, asks_holders, run}
 
 -- two heads, now and then with frames that nobody put
 abbrev pub two_heads : List Move

@@ -2,7 +2,7 @@
 use Rattle.std.specs.Prelude.{ℕ, zero, suc, ◌+◌, ◌%◌, ◌^◌, min, Bool, true, false, cond, not, ◌&&◌, ◌||◌, List, [], ◌∷◌, ◌++◌, length, Some, None, Option, ◌==◌, nat_le, nat_lt}
 use Rattle.frames.specs.Bounds.{after}
 use Rattle.frames.specs.Values.{Name, Ack, Asked, one, everyone, Frame, data_frame, ack_frame, nack_frame}
-use Rattle.head.specs.Slots.{Slot, unknown, ack, bare, whole}
+use Rattle.head.specs.Slots.{unknown, ack, bare, whole}
 use Rattle.head.specs.Queue.{Queue}
 use Rattle.head.specs.Head.{Head, mark, end, low, top, holds, room, stamps_left, with_clock, place}
 use Rattle.head.specs.Answers.{Done, done, idle, fired}

@@ -1,5 +1,5 @@
 -- turn: the holder of the token orders what is pending.
-use Rattle.std.specs.Prelude.{ℕ, zero, suc, ◌-◌, true, false, List, [], ◌∷◌, ◌++◌, length, Some, None, Option}
+use Rattle.std.specs.Prelude.{ℕ, zero, suc, ◌-◌, true, false, List, [], ◌∷◌, ◌++◌, length, Some, None}
 use Rattle.frames.specs.declared.refusal.Refusal.TheVariants.{StampsUsedUp}
 use Rattle.frames.specs.Bounds.{after}
 use Rattle.frames.specs.Values.{Name, Ack, Frame, ack_frame}

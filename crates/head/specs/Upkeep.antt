@@ -1,5 +1,5 @@
 -- What a head gives up after each call that was not refused.
-use Rattle.std.specs.Prelude.{ℕ, zero, suc, ◌+◌, Bool, true, false, cond, ◌&&◌, length, Some, None, Option, nat_le, nat_lt}
+use Rattle.std.specs.Prelude.{ℕ, zero, suc, ◌+◌, cond, ◌&&◌, length, Some, None, Option, nat_le, nat_lt}
 use Rattle.head.specs.Slots.{Slot, unknown, ack, bare, whole}
 use Rattle.head.specs.Queue.{acks, highest}
 use Rattle.head.specs.Head.{Head}

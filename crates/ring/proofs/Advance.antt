@@ -4,7 +4,7 @@ use mathlib.Core.List.{Memᴰ}
 use Rattle.std.proofs.lemmas.Bool.{cases_Bool, cases_eq, cond-true, cond-false, eq-eqb, ne_eqb, eqb-true}
 use Rattle.frames.specs.Values.{Ack, Message, Name}
 use Rattle.links.specs.Meaning.{Waits}
-use Rattle.head.specs.Answers.{Answer, made_it, not_yours}
+use Rattle.head.specs.Answers.{Answer}
 use Rattle.head.specs.Head.{Head, mark}
 use Rattle.head.specs.Slots.{named, size}
 use Rattle.head.proofs.Names.{listing, listing_same}

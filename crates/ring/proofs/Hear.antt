@@ -10,7 +10,7 @@ use Rattle.frames.specs.Written.{written}
 use Rattle.frames.specs.declared.refusal.Refusal.{Refusal}
 use Rattle.frames.proofs.Laws.{reads_back}
 use Rattle.links.specs.Meaning.{Waits}
-use Rattle.head.specs.Answers.{Answer, Done, done, made_it, not_yours}
+use Rattle.head.specs.Answers.{Answer, Done, done}
 use Rattle.head.specs.Head.{Head, Kept, fill, keep, low, place}
 use Rattle.head.specs.Hear.{asks, contradicts, frames_of, hear, hear_ack, hear_at, hear_data, hear_frame, hear_known, hear_nack, hear_pending, hear_read, hear_slot, hear_window, own_above, resend, same_kept}
 use Rattle.head.specs.Queue.{names_it, place_of}

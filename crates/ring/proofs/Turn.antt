@@ -6,7 +6,7 @@ use Rattle.std.proofs.lemmas.Bool.{cases_Bool, cases_lt, cases_eq, both_ways, co
 use Rattle.frames.specs.Values.{Ack, Frame, Message, Name, ack_frame, data_frame, nack_frame}
 use Rattle.frames.specs.declared.refusal.Refusal.TheVariants.{StampsUsedUp}
 use Rattle.links.specs.Meaning.{Waits}
-use Rattle.head.specs.Answers.{Answer, Done, done, not_yours}
+use Rattle.head.specs.Answers.{Answer, Done, done}
 use Rattle.head.specs.Head.{Head, Kept, Pending, end, fill_in, filled_by, holds, low, mark, place, room, stamps_left, top, with_clock}
 use Rattle.head.specs.Ranges.{kept_message}
 use Rattle.head.specs.Slots.{Slot, bare, cells, full, known, named, size}

@@ -7,7 +7,7 @@ use Rattle.frames.specs.Values.{Ack, Frame, Message}
 use Rattle.frames.specs.Written.{written}
 use Rattle.frames.specs.declared.refusal.Refusal.{Refusal}
 use Rattle.links.specs.Meaning.{Waits}
-use Rattle.head.specs.Answers.{Answer, Done, delivered, done, made_it, not_yours, refuse, refused}
+use Rattle.head.specs.Answers.{Answer, Done, done, refuse}
 use Rattle.head.specs.Head.{Head, mark}
 use Rattle.head.specs.Upkeep.{give_up, settled}
 use Rattle.head.proofs.Names.{listing}

@@ -2,9 +2,9 @@
 use Rattle.std.specs.Prelude.{◌≡◌, ℕ, suc, ◌<◌, ◌≤◌, cond, ◌≢◌, List, [], ◌∷◌, ◌++◌, map, length, ◌==◌}
 use mathlib.Core.List.{Memᴰ}
 use Rattle.frames.specs.Bounds.{needs}
-use Rattle.frames.specs.Values.{Name, Message}
+use Rattle.frames.specs.Values.{Message}
 use Rattle.ring.specs.Ring.{Ring, Event, Trip}
-use Rattle.ring.specs.Record.{Happened, Submits, Delivers, Submitted, issued, all_names, Ordered, Received, GivenUp, submissions, deliveries}
+use Rattle.ring.specs.Record.{Happened, Delivers, Submitted, issued, all_names, Ordered, Received, GivenUp, submissions, deliveries}
 
 -- the first list is a beginning of the second
 abbrev pub FrontOf : List Message → List Message → Type 0

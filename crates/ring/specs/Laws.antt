@@ -1,6 +1,5 @@
 -- More that holds of every ring: one token, no contradiction heard, deliveries that do not part.
 use Rattle.std.specs.Prelude.{◌≡◌, ℕ, ◌<◌, ◌≤◌, true, ◌≢◌, ◌⊎◌, List, ◌∷◌}
-use Rattle.frames.specs.declared.refusal.Refusal.{Refusal}
 use Rattle.frames.specs.declared.refusal.Refusal.TheVariants.{NotAFrame, FieldOutOfRange, Contradiction}
 use Rattle.head.specs.Head.{holds}
 use Rattle.head.specs.Answers.{refused}

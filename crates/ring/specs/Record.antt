@@ -3,7 +3,7 @@ use Rattle.std.specs.Prelude.{◌≡◌, ℕ, suc, ◌+◌, ◌-◌, ◌<◌, co
 use mathlib.Core.List.{Memᴰ}
 use Rattle.frames.specs.Values.{Name, Message, Ack, data_frame}
 use Rattle.frames.specs.Written.{written}
-use Rattle.head.specs.Head.{Head, mark}
+use Rattle.head.specs.Head.{mark}
 use Rattle.head.specs.Answers.{Answer, made_it, kept, filled, delivered}
 use Rattle.ring.specs.Ring.{Ring, Event, Call, submits, hears, turns, ticks, delivers}
 

@@ -1,5 +1,5 @@
 -- A list of calls on a ring, made one after another.
-use Rattle.std.specs.Prelude.{◌≡◌, ℕ, List, [], ◌∷◌}
+use Rattle.std.specs.Prelude.{◌≡◌, List, [], ◌∷◌}
 use Rattle.links.specs.Meaning.{Waits}
 use Rattle.head.specs.Answers.{Answer}
 use Rattle.calls.specs.Answers.{made as submitted, heard, turned, ticked, handed}

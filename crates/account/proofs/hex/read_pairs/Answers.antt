@@ -1,4 +1,4 @@
-use Rattle.std.proofs.Common.{◌≡◌, ℕ, List, Some, None, vec_items, sym, ap, ◌∙◌}
+use Rattle.std.proofs.Common.{ℕ, List, None, vec_items, sym, ap, ◌∙◌}
 use Rattle.account.proofs.Digits.{left, left_start, left_blank, left_stops, left_opens, left_closes, left_ends}
 use Rattle.account.proofs.hex.read_pairs.Goals as goal
 use Rattle.account.proofs.hex.read_pairs.Goals.{in-None, in-Some-open+in_ok-push-in-Some-open}

@@ -1,4 +1,4 @@
-use Rattle.std.proofs.Common.{◌≡◌, ℕ, cond, List, ◌++◌, length, drop, Ok, Err, sym, ap, ◌∙◌}
+use Rattle.std.proofs.Common.{◌++◌, length, drop, Ok, Err, sym, ◌∙◌}
 use Rattle.std.proofs.lemmas.Bool.{cond-true}
 use Rattle.frames.specs.declared.refusal.Refusal.TheVariants.{ValueOutOfRange}
 use Rattle.frames.proofs.Steps.{passed}

@@ -1,4 +1,4 @@
-use Rattle.std.proofs.Common.{◌≡◌, false, get_or, sym, ap, ◌∙◌, arith}
+use Rattle.std.proofs.Common.{get_or, sym}
 use Rattle.std.proofs.lemmas.Result.{err_from_is_err_and}
 use Rattle.frames.specs.declared.types.Frame.TheVariants.{Ack}
 use Rattle.frames.proofs.Accepted.{ranged_means, ranged_rest, ack_fails, many_names, no_issuer, other_next, ack_names_fail, ack_goes}

@@ -1,4 +1,4 @@
-use Rattle.std.proofs.Common.{◌∙◌, add-zero}
+use Rattle.std.proofs.Common.{add-zero}
 use Rattle.std.proofs.lemmas.List.{get_or-drop}
 use Rattle.frames.proofs.read.read_name.Goals as goal
 

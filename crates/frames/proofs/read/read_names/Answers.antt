@@ -1,7 +1,6 @@
-use Rattle.std.proofs.Common.{◌≡◌, true, cond, List, [], ◌∷◌, ◌++◌, length, Ok, Err, sym, ap, ◌∙◌, arith}
+use Rattle.std.proofs.Common.{◌≡◌, true, [], ◌∷◌, ◌++◌, length, ap, ◌∙◌, arith}
 use Rattle.std.proofs.lemmas.Result.{err_from_is_err_and}
 use Rattle.std.proofs.lemmas.Bool.{cond-true, lt-ltb}
-use Rattle.frames.specs.Values.{Name}
 use Rattle.frames.specs.Types.{name_of, names_of}
 use Rattle.frames.proofs.Naming.{length_names_of, rest_pushed}
 use Rattle.frames.proofs.Steps.{read_stops, read_more, read_ends, length_names_in}

@@ -1,7 +1,7 @@
 use Rattle.std.proofs.Common.{sym, refl, ap, ◌∙◌, arith}
 use Rattle.frames.specs.Types.{name_of}
 use Rattle.head.specs.Slots.{same_message, listed}
-use Rattle.frames.proofs.Naming.{from, from_is}
+use Rattle.frames.proofs.Naming.{from_is}
 use Rattle.store.proofs.Naming.{any_hit, any_miss, any_end}
 use Rattle.store.proofs.same.is_listed.Goals as goal
 

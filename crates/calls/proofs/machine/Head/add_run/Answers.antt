@@ -1,4 +1,4 @@
-use Rattle.std.proofs.Common.{◌≡◌, ◌+◌, ◌-◌, ltb, length, sym, ap, ◌∙◌, arith}
+use Rattle.std.proofs.Common.{◌+◌, ◌-◌, ltb, length, sym, ap, ◌∙◌, arith}
 use Rattle.frames.specs.Types.{names_of}
 use Rattle.frames.proofs.Naming.{length_names_of}
 use Rattle.store.specs.Parts.{inbox_of, table_of}

@@ -1,4 +1,4 @@
-use Rattle.std.proofs.Common.{◌≡◌, ◌+◌, Err, Result, refl, ap, ◌∙◌, arith}
+use Rattle.std.proofs.Common.{◌+◌, Err, Result, refl, ap, ◌∙◌, arith}
 use Rattle.std.proofs.lemmas.Result.{err_from_is_err_and}
 use Rattle.std.proofs.lemmas.Bool.{cond-true}
 use Rattle.frames.specs.declared.refusal.Refusal.{Refusal}

@@ -1,8 +1,7 @@
-use Rattle.std.proofs.Common.{◌≡◌, [], ◌∷◌, sym, refl, ap, ◌∙◌, arith}
+use Rattle.std.proofs.Common.{[], ◌∷◌, sym, refl, ◌∙◌, arith}
 use Rattle.frames.specs.Values.{nack_frame}
 use Rattle.head.specs.Head.{top}
 use Rattle.head.specs.Tick.{fire}
-use Rattle.head.specs.Upkeep.{settled}
 use Rattle.calls.specs.Answers.{ticked}
 use Rattle.calls.specs.Model.{model}
 use Rattle.calls.proofs.Turning.{did_as}

@@ -1,6 +1,5 @@
-use Rattle.std.proofs.Common.{◌≡◌, [], None, sym, ap, ◌∙◌}
+use Rattle.std.proofs.Common.{[], None, ap, ◌∙◌}
 use Rattle.frames.specs.declared.types.RingSize.{RingSize}
-use Rattle.head.specs.Head.{Head}
 use Rattle.head.specs.Answers.{done}
 use Rattle.head.specs.Deliver.{deliver, hand_over}
 use Rattle.calls.specs.Answers.{handed}

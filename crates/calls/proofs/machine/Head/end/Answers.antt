@@ -1,4 +1,4 @@
-use Rattle.std.proofs.Common.{◌≡◌, arith}
+use Rattle.std.proofs.Common.{arith}
 use Rattle.head.specs.Head.{end}
 use Rattle.head.specs.Slots.{known}
 use Rattle.head.proofs.Walk.{past_last_ends}

@@ -1,4 +1,4 @@
-use Rattle.std.proofs.Common.{◌≡◌, ◌∷◌, ap, ◌∙◌}
+use Rattle.std.proofs.Common.{◌∷◌, ap, ◌∙◌}
 use Rattle.frames.specs.Types.{names_of}
 use Rattle.frames.specs.Values.{Frame}
 use Rattle.store.specs.Look.{put_of}

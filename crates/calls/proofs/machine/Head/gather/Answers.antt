@@ -1,6 +1,5 @@
-use Rattle.std.proofs.Common.{◌≡◌, ◌+◌, ◌-◌, ◌<◌, sym, ap, ◌∙◌, mod-lt, arith}
+use Rattle.std.proofs.Common.{◌+◌, ◌-◌, ◌<◌, ◌∙◌, mod-lt, arith}
 use Rattle.frames.specs.Types.{names_of}
-use Rattle.head.specs.Turn.{to_order}
 use Rattle.calls.specs.Model.{model}
 use Rattle.calls.proofs.Gathering.{gather_starts, gather_over, gather_goes_on}
 use Rattle.calls.proofs.machine.Head.gather.Goals as goal

@@ -1,7 +1,6 @@
-use Rattle.std.proofs.Common.{◌≡◌, sym, refl, ap, ◌∙◌}
+use Rattle.std.proofs.Common.{◌≡◌, refl, ap, ◌∙◌}
 use Rattle.frames.specs.Types.{names_of}
-use Rattle.frames.specs.Values.{Ack}
-use Rattle.head.specs.Head.{Head, place}
+use Rattle.head.specs.Head.{place}
 use Rattle.store.specs.Parts.{ack_of}
 use Rattle.calls.specs.Model.{model}
 use Rattle.calls.proofs.Issuing.{new_spans, new_unknown, new_stamps, order_made, made_ack}

@@ -1,4 +1,4 @@
-use Rattle.std.proofs.Common.{◌≡◌, ◌+◌, ◌≤◌, sym, ap, ◌∙◌, arith}
+use Rattle.std.proofs.Common.{◌+◌, sym, ap, ◌∙◌, arith}
 use Rattle.store.specs.Parts.{kept_of, table_of}
 use Rattle.calls.specs.Choice.{kept_under}
 use Rattle.calls.proofs.Gathering.{kept_read, kept_small}

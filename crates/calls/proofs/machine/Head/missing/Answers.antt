@@ -1,4 +1,4 @@
-use Rattle.std.proofs.Common.{◌≡◌, leb, length}
+use Rattle.std.proofs.Common.{leb, length}
 use Rattle.head.specs.Head.{end}
 use Rattle.calls.proofs.Asking.{counted_some, counted_none}
 use Rattle.calls.proofs.machine.Head.missing.Goals as goal

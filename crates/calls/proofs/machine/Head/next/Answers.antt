@@ -1,4 +1,4 @@
-use Rattle.std.proofs.Common.{Option, sym, ap, ◌∙◌}
+use Rattle.std.proofs.Common.{Option, ap}
 use Rattle.frames.specs.Values.{Ack}
 use Rattle.head.specs.Head.{next_of, top}
 use Rattle.calls.proofs.machine.Head.next.Goals as goal

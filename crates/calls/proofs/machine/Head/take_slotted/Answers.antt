@@ -1,4 +1,4 @@
-use Rattle.std.proofs.Common.{◌≡◌, ◌+◌, true, false, sym, refl, ap, ◌∙◌, arith}
+use Rattle.std.proofs.Common.{◌+◌, true, false, sym, refl, ap, ◌∙◌, arith}
 use Rattle.frames.specs.Types.{body_of, message_of}
 use Rattle.store.specs.Parts.{queue_of, table_of}
 use Rattle.store.proofs.Filling.{filled_low, filled_own, filled_ends, filled_passed}

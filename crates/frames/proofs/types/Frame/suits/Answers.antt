@@ -1,4 +1,4 @@
-use Rattle.std.proofs.Common.{◌≡◌, Bool, sym, ap, ◌∙◌}
+use Rattle.std.proofs.Common.{sym, ap, ◌∙◌}
 use Rattle.frames.specs.declared.types.Frame.{Frame}
 use Rattle.frames.specs.Values.{frame_ok}
 use Rattle.frames.specs.Types.{frame_of}

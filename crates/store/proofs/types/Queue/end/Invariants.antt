@@ -1,4 +1,4 @@
-use Rattle.std.proofs.Common.{◌≡◌, ◌-◌}
+use Rattle.std.proofs.Common.{◌≡◌}
 use Rattle.head.specs.Slots.{known}
 use Rattle.head.specs.Queue.{past_last}
 use Rattle.store.specs.Parts.{queue_of}

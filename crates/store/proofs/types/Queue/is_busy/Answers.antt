@@ -1,4 +1,4 @@
-use Rattle.std.proofs.Common.{◌≡◌, ◌-◌, ◌<◌, sym, ap, ◌∙◌, arith}
+use Rattle.std.proofs.Common.{◌≡◌, ◌-◌, sym, ap, ◌∙◌, arith}
 use Rattle.head.specs.Queue.{Queue}
 use Rattle.head.specs.Tick.{busy}
 use Rattle.store.specs.Parts.{queue_of}

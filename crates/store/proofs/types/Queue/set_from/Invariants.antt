@@ -1,4 +1,4 @@
-use Rattle.std.proofs.Common.{◌≡◌, ◌+◌, ◌-◌}
+use Rattle.std.proofs.Common.{◌≡◌, ◌+◌}
 use Rattle.store.specs.Parts.{queue_of, inbox_of, ack_of}
 use Rattle.store.proofs.Placing.{laid}
 use Rattle.store.proofs.types.Queue.set_from.Given as goal

@@ -1,6 +1,5 @@
 use Rattle.std.proofs.Common.{◌≡◌, ◌+◌, true, false, sym, ap, ◌∙◌, arith}
 use Rattle.std.proofs.lemmas.Bool.{lt-ltb, le-ltb}
-use Rattle.head.specs.Queue.{acks}
 use Rattle.head.specs.Upkeep.{ready}
 use Rattle.store.specs.Parts.{slot_of, queue_of, part}
 use Rattle.store.proofs.View.{queue_read}
