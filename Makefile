@@ -7,5 +7,6 @@ test:
 
 # An account of the sample of frames, as heard in a van of eight heads.
 inspect:
-	rt check inspect >/dev/null
-	./target/bin/inspect 8 < crates/inspect/stdin
+	@mkdir -p crates/inspect/out
+	@cd crates/inspect && rt run -- 8 <stdin >out/inspect.log 2>&1 || { cat out/inspect.log; exit 1; }
+	@cd crates/inspect && ./out/inspect 8 <stdin

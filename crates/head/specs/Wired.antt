@@ -1,6 +1,5 @@
 -- Heads that share a wire: what one puts waits for every head, and hear takes the oldest packet that waits.
-use Rattle.std.specs.Prelude.{ℕ, cond, List, [], ◌∷◌, map, ◌==◌}
-use Rattle.frames.specs.Written.{written}
+use Rattle.std.specs.Prelude.{ℕ, List, [], ◌∷◌}
 use Rattle.links.specs.Wire.{Queues, put_wire, taken_wire, take_wire, clear_wire}
 use Rattle.head.specs.Head.{Head, fresh}
 use Rattle.head.specs.Answers.{Done}
@@ -9,6 +8,8 @@ use Rattle.head.specs.Hear.{hear}
 use Rattle.head.specs.Turn.{turn}
 use Rattle.head.specs.Tick.{tick}
 use Rattle.head.specs.Deliver.{deliver}
+use Rattle.head.specs.Cases.{packets}
+use Rattle.head.specs.Runs.{now_at}
 
 -- the heads by their numbers, and what the wire holds
 pub record Wired : Type 0 where
@@ -27,18 +28,10 @@ pub data Move : Type 0 where
   ticks : ℕ → Move
   delivers : ℕ → Move
 
--- the packets that a call puts
-abbrev pub packets : ℕ → Done → List (List ℕ)
-packets n d = map (written n) d.puts
-
 -- each packet is put, the first of them first
 abbrev pub all_put : List (List ℕ) → Queues → Queues
 all_put [] w = w
 all_put (p ∷ ps) w = all_put ps (put_wire p w)
-
--- the head w is now x
-abbrev pub now_at : (ℕ → Head) → ℕ → Head → ℕ → Head
-now_at hs w x g = cond (g == w) x (hs g)
 
 -- the head g is what the call left, and what the call put is on the wire
 abbrev pub after_call : ℕ → ℕ → Done → Wired → Wired

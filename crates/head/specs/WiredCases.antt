@@ -3,21 +3,18 @@ use Rattle.std.specs.Prelude.{◌≡◌, ℕ, zero, suc, List, [], ◌∷◌, ne
 use Rattle.frames.specs.declared.refusal.Refusal.TheVariants.{BadLevel, TooManyUnordered, NoDataSlot, FieldOutOfRange}
 use Rattle.frames.specs.Refusals.{number_of}
 use Rattle.frames.specs.Bounds.{needs}
-use Rattle.frames.specs.Values.{Message, Asked, one, everyone}
+use Rattle.frames.specs.Values.{Asked, one, everyone}
 use Rattle.bodies.specs.Layout.{measure_bytes}
 use Rattle.head.specs.Head.{Head, mark, end, with_clock}
 use Rattle.head.specs.Answers.{refused, made_it, kept, placed, nothing, ordered, fired, waiting, delivered}
 use Rattle.head.specs.Tick.{wait, asked}
 use Rattle.head.specs.Questions.{missing, ask_holders}
-use Rattle.head.specs.Wired.{Wired, wired, Move, submits, hears, turns, ticks, delivers, packets, did, after, missed, sent}
+use Rattle.head.specs.Cases.{packets, first_message, data_packet, ack_packet, zeros}
+use Rattle.head.specs.Wired.{Wired, wired, Move, submits, hears, turns, ticks, delivers, did, after, missed, sent}
 
 -- head 0 submits its next message at the level l, with one byte of body
 abbrev pub submit_at : ℕ → Move
 submit_at l = submits 0 l (1 ∷ [])
-
--- the first of them
-abbrev pub first_message : ℕ → Message
-first_message l = record { name = record { source = 0; number = 1; level = l }; body = 1 ∷ [] }
 
 -- n heads, after head 0 has submitted it
 abbrev pub submitted : ℕ → ℕ → Wired
@@ -26,14 +23,6 @@ submitted n l = after n (submit_at l ∷ []) (wired n)
 -- and has had its turn
 abbrev pub turned : ℕ → ℕ → Wired
 turned n l = after n (turns 0 ∷ []) (submitted n l)
-
--- its Data frame at level 0
-abbrev pub data_packet : List ℕ
-data_packet = 1 ∷ 0 ∷ 0 ∷ 0 ∷ 0 ∷ 1 ∷ 0 ∷ 1 ∷ 1 ∷ []
-
--- the ACK that orders it
-abbrev pub ack_packet : List ℕ
-ack_packet = 2 ∷ 0 ∷ 0 ∷ 0 ∷ 1 ∷ 0 ∷ 1 ∷ 1 ∷ 0 ∷ 0 ∷ 0 ∷ 0 ∷ 1 ∷ 0 ∷ []
 
 -- both wait for a head
 abbrev pub both_packets : List (List ℕ)
@@ -95,11 +84,6 @@ an_ack_past_a_gap = sent (2 ∷ 0 ∷ 0 ∷ 0 ∷ 4 ∷ 1 ∷ 2 ∷ 1 ∷ 0 ∷ 
 -- an ACK of head 0 that names head 2 as next
 abbrev pub a_wrong_next : Wired
 a_wrong_next = sent (2 ∷ 0 ∷ 0 ∷ 0 ∷ 1 ∷ 0 ∷ 2 ∷ 0 ∷ []) (wired 3)
-
--- k zeros
-abbrev pub zeros : ℕ → List ℕ
-zeros zero = []
-zeros (suc k) = 0 ∷ zeros k
 
 -- what each case says, by name
 pub record WiredCases : Type 0 where

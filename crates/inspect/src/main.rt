@@ -41,12 +41,10 @@ fn run(rt: &HostRuntime) -> anyhow::Result<()> {
     Ok(())
 }
 
+// What stops the program is printed with its name, and ends it with status 1.
 fn main(rt: HostRuntime) -> anyhow::Result<()> {
     match run(&rt) {
         Ok(()) => Ok(()),
-        Err(e) => {
-            eprintln!(rt; "inspect: {e}")?;
-            Err(e)
-        }
+        Err(e) => Err(anyhow!(format!(in rt.alloc(); "inspect: {e}")?)),
     }
 }
