@@ -1,7 +1,7 @@
 # The commands of README.md.
 .PHONY: test inspect
 
-# The gate: every proof from nothing, every must-fail edit, every program and test.
+# The gate: every proof, every must-fail edit, every program and test.
 test:
 	bash .ci/run
 

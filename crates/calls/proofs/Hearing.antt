@@ -20,7 +20,7 @@ use Rattle.calls.specs.Model.{model}
 use Rattle.head.proofs.Slots.{same_name_is}
 use Rattle.store.proofs.View.{queue_read}
 use Rattle.store.proofs.Filling.{body_whole}
-use Rattle.frames.proofs.Naming.{length_names_of}
+use Rattle.frames.proofs.Naming.{length-names_of}
 use Rattle.store.proofs.Placing.{spans_parts}
 use Rattle.calls.proofs.Choosing.{pick}
 use Rattle.calls.proofs.Issuing.{AllMade, made_ack}
@@ -135,14 +135,14 @@ new_own h a e =
 module _ (n : ℕ) (x : CHead) (t i : ℕ) (ns : Names) where
   pub ack_past : x.queue.base ≤ t → spans x.queue t ns.count ≡ false → hear_ack n (ack_of t i ns) (model x) ≡ done n crowded (model x) []
   ack_past g e =
-      let l = length_names_of ns in
+      let l = length-names_of ns in
       let f : leb (t + ns.count) (x.queue.base + 95) ≡ false = sym (ap (λ b. b && leb (t + ns.count) (x.queue.base + 95)) (le-leb x.queue.base t g)) ∙ e in
       let k = leb-false (t + ns.count) (x.queue.base + 95) f in
       ack_crowded n (model x) (ack_of t i ns) g (omega arith)
 
   pub ack_slot : (s : Slot) → spans x.queue t ns.count ≡ true → queue_of x.queue.base x.queue.slots t ≡ s → hear_ack n (ack_of t i ns) (model x) ≡ hear_at n (model x) (ack_of t i ns) s
   ack_slot s e r =
-      let l = length_names_of ns in
+      let l = length-names_of ns in
       let p = spans_parts x.queue t ns.count e in
       ack_here n (model x) (ack_of t i ns) s p.0 (omega arith) r
 

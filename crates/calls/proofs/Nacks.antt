@@ -10,7 +10,7 @@ use Rattle.frames.specs.Types.{names_of}
 use Rattle.frames.specs.Reading.{read}
 use Rattle.frames.specs.Laws.{Byte}
 use Rattle.frames.proofs.Laws.{writes_back}
-use Rattle.frames.proofs.Naming.{length_names_of}
+use Rattle.frames.proofs.Naming.{length-names_of}
 use Rattle.head.specs.Head.{Head}
 use Rattle.head.specs.Answers.{done, nothing}
 use Rattle.head.specs.Hear.{asks, frames_of, resend, hear_nack, hear_read, hear}
@@ -51,7 +51,7 @@ heard_as n bs h r e = ap (hear_read n h) e
 -- an ACK that was read ends in time
 pub read_ends : (n t i : ℕ) (ns : Names) (bs : List ℕ) → ((k : ℕ) → Fits w8 (get_or bs k 0)) → Ok (ack_frame (ack_of t i ns)) ≡ read n bs → t + ns.count ≤ 1000000
 read_ends n t i ns bs fits e =
-    let l = length_names_of ns in
+    let l = length-names_of ns in
     let ok : frame_ok n (ack_frame (ack_of t i ns)) ≡ true = (writes_back n bs (ack_frame (ack_of t i ns)) (All-from_get_or Byte bs 0 (λ k _. (fits k).fits)) (sym e)).1 in
     let g : t + length (names_of ns) ≤ 1000000 = grind (arith, nat_tests) in
     omega arith

@@ -2,7 +2,7 @@
 use Rattle.std.proofs.Common.{◌≡◌, ℕ, suc, ◌+◌, ◌≤◌, max, true, cond, leb, List, Some, None, Option, sym, ap, ◌∙◌, subst, arith}
 use Rattle.frames.specs.declared.types.Names.{Names}
 use Rattle.frames.specs.Types.{names_of}
-use Rattle.frames.proofs.Naming.{length_names_of}
+use Rattle.frames.proofs.Naming.{length-names_of}
 use Rattle.head.specs.Slots.{Slot, unknown, ack, bare, whole, known, named, over, cells, size}
 use Rattle.head.specs.Queue.{Queue, all_unknown, raise}
 use Rattle.head.specs.Head.{Kept, Pending, fill_in, filled_by, numbered_in, low, place}
@@ -22,7 +22,7 @@ module _ (x : CHead) (q : CQueue) (l : List ℕ) (t i : ℕ) (ns : Names) (eb : 
   pub code_rises : all_unknown (model x).queue (suc ns.count) t ≡ true → ((s : ℕ) → table_of x.inbox.low s ≡ low_of x.queue s) → (s : ℕ) → table_of x.inbox.low s ≤ table_of l s
   unfolding low
   code_rises free lows s =
-      let f : all_unknown (model x).queue (suc (size (ack_of t i ns))) t ≡ true = ap (λ n. all_unknown (model x).queue (suc n) t) (length_names_of ns) ∙ free in
+      let f : all_unknown (model x).queue (suc (size (ack_of t i ns))) t ≡ true = ap (λ n. all_unknown (model x).queue (suc n) t) (length-names_of ns) ∙ free in
       let g : low (model x) s ≤ table_of l s = placed_grows (model x) (ack_of t i ns) q.base (queue_of q.base q.slots) (table_of q.gone) (table_of l) eb slots_is (ap table_of eg) el f s in
       let e = lows s in
       omega arith
@@ -38,11 +38,11 @@ module _ (x : CHead) (q : CQueue) (l : List ℕ) (t i : ℕ) (ns : Names) (eb : 
   pub code_ends : t + ns.count ≤ 1000000 → Ends x.queue → Ends q
   code_ends r en u l =
       ap (λ (v : Queue). known (v u)) slots_is
-      ∙ (ap (λ (v : Slot). known (over (fill_in (inbox_of x.inbox) v) (queue_of x.queue.base x.queue.slots u))) (cells_above (ack_of t i ns) u (omega (arith, length_names_of ns))) ∙ en u l)
+      ∙ (ap (λ (v : Slot). known (over (fill_in (inbox_of x.inbox) v) (queue_of x.queue.base x.queue.slots u))) (cells_above (ack_of t i ns) u (omega (arith, length-names_of ns))) ∙ en u l)
 
   pub code_passed : all_unknown (model x).queue (suc ns.count) t ≡ true → (d : ℕ) → Passed x.queue d → Passed q d
   code_passed free d p u a b =
-      let f : all_unknown (model x).queue (suc (size (ack_of t i ns))) t ≡ true = ap (λ n. all_unknown (model x).queue (suc n) t) (length_names_of ns) ∙ free in
+      let f : all_unknown (model x).queue (suc (size (ack_of t i ns))) t ≡ true = ap (λ n. all_unknown (model x).queue (suc n) t) (length-names_of ns) ∙ free in
       let y = p u (omega (arith, eb)) b in
       ap (λ (v : Queue). known (v u)) slots_is ∙ (ap known (laid_keeps (model x).queue (inbox_of x.inbox) (ack_of t i ns) u f y) ∙ y)
 

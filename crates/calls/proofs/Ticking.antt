@@ -9,7 +9,7 @@ use Rattle.head.specs.Tick.{wait, asked, busy, own_again, own_message, fire, fir
 use Rattle.head.specs.Turn.{to_order, new_ack}
 use Rattle.store.specs.declared.types.Frames.{Frames}
 use Rattle.store.specs.Puts.{puts_of}
-use Rattle.store.proofs.Looking.{length_puts_of}
+use Rattle.store.proofs.Looking.{length-puts_of}
 use Rattle.calls.proofs.Choosing.{pick}
 
 module _ (n : ℕ) (h : Head) where
@@ -42,7 +42,7 @@ module _ (n : ℕ) (h : Head) where
       → record { answer = fired ps.count; head = settled n (with_clock h 0 r); puts = puts_of ps; issued = None } ≡ fire n h fs
   fire_as ps fs os ms r p a m e =
       let q : puts_of ps ≡ fs ++ (own_again h (top h) ++ own_message h) = p ∙ (λ j. fs ++ (a j ++ m j)) in
-      let l : ps.count ≡ length (fs ++ (own_again h (top h) ++ own_message h)) = sym (length_puts_of ps) ∙ ap length q in
+      let l : ps.count ≡ length (fs ++ (own_again h (top h) ++ own_message h)) = sym (length-puts_of ps) ∙ ap length q in
       λ j. record { answer = fired (l j); head = settled n (with_clock h 0 (e j)); puts = q j; issued = None }
 
   pub fire_ack_as : (ps : Frames) (xs : List Name) (a : Ack) (g : Head) (ms : List Frame) → puts_of ps ≡ ack_frame a ∷ ms → a ≡ new_ack h xs → g ≡ place h (new_ack h xs) → ms ≡ own_message g
@@ -50,5 +50,5 @@ module _ (n : ℕ) (h : Head) where
   fire_ack_as ps xs a g ms p e f m =
       let o : ms ≡ own_message (place h (new_ack h xs)) = m ∙ ap own_message f in
       let q : puts_of ps ≡ ack_frame (new_ack h xs) ∷ own_message (place h (new_ack h xs)) = p ∙ (λ j. ack_frame (e j) ∷ o j) in
-      let l : ps.count ≡ suc (length (own_message (place h (new_ack h xs)))) = sym (length_puts_of ps) ∙ ap length q in
+      let l : ps.count ≡ suc (length (own_message (place h (new_ack h xs)))) = sym (length-puts_of ps) ∙ ap length q in
       λ j. record { answer = fired (l j); head = settled n (f j); puts = q j; issued = Some (e j) }

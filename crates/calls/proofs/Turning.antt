@@ -5,7 +5,7 @@ use Rattle.frames.specs.declared.refusal.Refusal.TheVariants.{StampsUsedUp}
 use Rattle.frames.specs.declared.types.Names.{Names}
 use Rattle.frames.specs.Types.{names_of}
 use Rattle.frames.specs.Values.{Name, Frame}
-use Rattle.frames.proofs.Naming.{length_names_of}
+use Rattle.frames.proofs.Naming.{length-names_of}
 use Rattle.head.specs.Head.{Head, end, holds, room, stamps_left}
 use Rattle.head.specs.Answers.{Answer, Done as MDone, done, refuse, nothing, crowded, not_yours, ordered}
 use Rattle.head.specs.Turn.{turn, turn_with, turn_stamps, to_order, issue}
@@ -22,7 +22,7 @@ did_as word d h a fs p q r = λ j. record { answer = word (p j); head = h; puts 
 
 -- there are names
 pub some_names : (ns : Names) → (ns.count ≡ 0 → ⊥) → 0 < length (names_of ns)
-some_names ns h = let l = length_names_of ns in elim (cases_eq ns.count 0) [ inl z ↦ absurd (h z) | inr z ↦ omega arith ]
+some_names ns h = let l = length-names_of ns in elim (cases_eq ns.count 0) [ inl z ↦ absurd (h z) | inr z ↦ omega arith ]
 
 module _ (n : ℕ) (h : Head) where
   pub turn_idle : holds n h ≡ false → turn n h ≡ done n not_yours h []

@@ -14,7 +14,7 @@ use Rattle.frames.specs.Written.{written}
 use Rattle.frames.specs.Reading.{word_at, name_in, names_in, data_in, ack_in, ranged, counted, read_data, read_ack, read}
 use Rattle.frames.specs.Laws.{Byte}
 use Rattle.frames.proofs.Laws.{writes_back}
-use Rattle.frames.proofs.Steps.{passed, failed, length_names_in}
+use Rattle.frames.proofs.Steps.{passed, failed, length-names_in}
 
 -- a frame that is accepted is the one that writing it gives
 pub forth : (n : ℕ) (bs : List ℕ) (r : Result CFrame Refusal) → ((i : ℕ) → Fits w8 (get_or bs i 0)) → meant frame_of r ≡ read n bs → IfOk r (λ f. written n (frame_of f) ≡ bs)
@@ -66,7 +66,7 @@ ack_fails n bs c h = ranged_fails n (counted 6 bs) (eqb (get_or bs 6 0) (after n
 
 module _ (n : ℕ) (bs : List ℕ) where
   pub many_names : 4 < get_or bs 7 0 → ack_test n bs ≡ false
-  many_names h = let l = length_names_in (get_or bs 7 0) (drop 8 bs) in grind (arith, nat_tests)
+  many_names h = let l = length-names_in (get_or bs 7 0) (drop 8 bs) in grind (arith, nat_tests)
 
   pub no_issuer : n ≤ get_or bs 5 0 → ack_test n bs ≡ false
   no_issuer h = grind (arith, nat_tests)

@@ -13,7 +13,7 @@ use Rattle.frames.specs.Written.{word_then, name_bytes, asked_byte, written}
 use Rattle.frames.specs.Reading.{word_at, name_in, names_in, asked_in, data_in, ack_in, nack_in, ranged, counted, read_data, read_ack, read_nack}
 use Rattle.frames.specs.Laws.{Byte, ReadsBack, WritesBack}
 use Rattle.frames.proofs.Fronts.{length_names}
-use Rattle.frames.proofs.Steps.{length_names_in}
+use Rattle.frames.proofs.Steps.{length-names_in}
 
 -- What was written reads back.
 
@@ -132,7 +132,7 @@ ack_forth n bs all kind x l =
     let k = get_or bs 7 0 in
     let ns = names_in k (drop 8 bs) in
     let w = word_at_forth bs all 1 (get_or bs 5 0 ∷ after n (get_or bs 5 0) ∷ length ns ∷ flat_map name_bytes ns) in
-    let c : length ns ≡ k = length_names_in k (drop 8 bs) in
+    let c : length ns ≡ k = length-names_in k (drop 8 bs) in
     let r : flat_map name_bytes ns ≡ drop 8 bs = names_forth k (drop 8 bs) (All-drop Byte 8 bs all) (simp length-drop (omega arith)) in
     let s : places 8 0 bs ++ drop 8 bs ≡ bs = spelt 8 0 bs (omega arith) in
     ap (λ xs. 2 ∷ xs) w ∙ simp (c, r, ← x) (ap (λ z. z ∷ (places 7 1 bs ++ drop 8 bs)) (sym kind) ∙ s)

@@ -20,8 +20,8 @@ pub from_all : (ns : Names) → from ns 0 ≡ names_of ns
 unfolding from
 from_all ns = refl
 
-pub length_names_of : (ns : Names) → length (names_of ns) ≡ ns.count
-length_names_of ns =
+pub length-names_of : (ns : Names) → length (names_of ns) ≡ ns.count
+length-names_of ns =
     let f = ns.places in
     let g = ns.few in
     length-map (take ns.count ns.all) name_of ∙ length-take-le ns.count ns.all (omega arith)
@@ -77,7 +77,7 @@ rest_pushed ns ms x false p q e = rw (p, q) e
 -- An ACK of the code has at most four names.
 pub ack_ok : (n t i : ℕ) (ns : Names) → (leb 1 t && (leb (t + ns.count) 1000000 && (ltb i n && names_ok n (names_of ns)))) ≡ frame_ok n (ack_frame (record { stamp = t; issuer = i; names = names_of ns }))
 ack_ok n t i ns =
-    let l = length_names_of ns in
+    let l = length-names_of ns in
     let c : leb ns.count 4 ≡ true = le-leb ns.count 4 ns.few in
     simp (l, c)
 
@@ -88,8 +88,8 @@ named_at ns i z h =
     let l = length-take-le ns.count ns.all (omega arith) in
     get_or-map name_of (take ns.count ns.all) i z (name_of z) (omega arith) ∙ ap name_of (get_or-take ns.count ns.all i z h)
 
-pub length_body_of : (b : Body) → length (body_of b) ≡ b.len
-length_body_of b =
+pub length-body_of : (b : Body) → length (body_of b) ≡ b.len
+length-body_of b =
     let f = b.places in
     let g = leb-true b.len 8 (and_parts (leb 1 b.len) (leb b.len 8) b.fits).1 in
     length-take-le b.len b.bytes (omega arith)

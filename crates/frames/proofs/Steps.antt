@@ -8,19 +8,19 @@ use Rattle.frames.specs.Made.{name_for, names_for}
 use Rattle.frames.specs.Values.{Name, name_ok, names_ok}
 use Rattle.frames.specs.Reading.{name_in, names_in}
 
-pub length_names_in : (i : ℕ) (bs : List ℕ) → length (names_in i bs) ≡ i
-length_names_in zero bs = refl
-length_names_in (suc i) bs = ap suc (length_names_in i (drop 6 bs))
+pub length-names_in : (i : ℕ) (bs : List ℕ) → length (names_in i bs) ≡ i
+length-names_in zero bs = refl
+length-names_in (suc i) bs = ap suc (length-names_in i (drop 6 bs))
 
 -- where the names are, past the first
 six_more : (i : ℕ) (bs : List ℕ) → drop (6 * i) (drop 6 bs) ≡ drop (6 * suc i) bs
 six_more i bs = let e : 6 + 6 * i ≡ 6 * suc i = omega arith in drop-drop (6 * i) 6 bs ∙ ap (λ k. drop k bs) e
 
 -- one more name at the end
-pub names_in_suc : (i : ℕ) (bs : List ℕ) → names_in (suc i) bs ≡ names_in i bs ++ name_in (drop (6 * i) bs) ∷ []
-names_in_suc zero bs = refl
-names_in_suc (suc i) bs =
-    ap (λ ns. name_in bs ∷ ns) (names_in_suc i (drop 6 bs) ∙ ap (λ b. names_in i (drop 6 bs) ++ name_in b ∷ []) (six_more i bs))
+pub names_in-suc : (i : ℕ) (bs : List ℕ) → names_in (suc i) bs ≡ names_in i bs ++ name_in (drop (6 * i) bs) ∷ []
+names_in-suc zero bs = refl
+names_in-suc (suc i) bs =
+    ap (λ ns. name_in bs ∷ ns) (names_in-suc i (drop 6 bs) ∙ ap (λ b. names_in i (drop 6 bs) ++ name_in b ∷ []) (six_more i bs))
 
 -- an answer that stands on one test
 pub passed : {A : Type 0} (ok : Bool) (x y : A) (e : Refusal) → Ok y ≡ cond ok (Ok x) (Err e) → (ok ≡ true) × (y ≡ x)
@@ -62,7 +62,7 @@ read_more n i bs x xs e ok r =
     let p = passed (name_ok n (name_in (drop (8 + 6 * i) bs))) _ x FieldOutOfRange r in
     let d = drop-drop (6 * i) 8 bs in
     let y : name_in (drop (6 * i) (drop 8 bs)) ≡ x = ap name_in d ∙ sym p.1 in (
-      rw (e, add-one) (ap (λ (z : Name). names_in i (drop 8 bs) ++ z ∷ []) (sym y) ∙ sym (names_in_suc i (drop 8 bs))),
+      rw (e, add-one) (ap (λ (z : Name). names_in i (drop 8 bs) ++ z ∷ []) (sym y) ∙ sym (names_in-suc i (drop 8 bs))),
       rw add-one (names_hold n i (drop 8 bs) ok (ap (λ (zs : List ℕ). name_ok n (name_in zs)) d ∙ p.0)),
     )
 

@@ -4,7 +4,7 @@ use Rattle.std.proofs.lemmas.List.{length-map, length-take-le, map-append, take_
 use Rattle.std.proofs.lemmas.Bool.{le-leb, lt-leb, eq-eqb, ne_eqb, cond-true, cond-false}
 use Rattle.frames.specs.declared.types.Frame.{Frame as CFrame}
 use Rattle.frames.specs.declared.types.Names.{Names}
-use Rattle.frames.proofs.Naming.{length_names_of}
+use Rattle.frames.proofs.Naming.{length-names_of}
 use Rattle.frames.specs.Types.{frame_of, names_of}
 use Rattle.frames.specs.Values.{Name, Ack, one, everyone}
 use Rattle.head.specs.Head.{Head, top}
@@ -73,13 +73,13 @@ module _ (q : Queue) where
 
     pub busy_here : (i : ℕ) (ns : Names) → q (t + j) ≡ ack i (names_of ns) → 0 < ns.count → true ≡ busy q k t c
     busy_here i ns g some =
-        let l = length_names_of ns in
+        let l = length-names_of ns in
         sym (busy_ack i (names_of ns) g ∙ ap (λ b. not b || busy q j t d) (ne_eqb (length (names_of ns)) 0 (λ z. omega arith)))
 
     -- an ACK of no names counts as one of the last
     pub busy_less : (i : ℕ) (ns : Names) → q (t + j) ≡ ack i (names_of ns) → ns.count ≤ 0 → busy q j t d ≡ busy q k t c
     busy_less i ns g nothing =
-        let l = length_names_of ns in
+        let l = length-names_of ns in
         sym (busy_ack i (names_of ns) g ∙ ap (λ b. not b || busy q j t d) (eq-eqb (length (names_of ns)) 0 (omega arith)))
 
     pub busy_before : is_ack (q (t + j)) ≡ false → busy q j t c ≡ busy q k t c
@@ -114,8 +114,8 @@ module _ (n : ℕ) (h : Head) (a : Option Ack) (me r : ℕ) (mine : h.me ≡ me)
 
 -- the frames of one call
 
-pub length_puts_of : (fs : Frames) → length (puts_of fs) ≡ fs.count
-length_puts_of fs =
+pub length-puts_of : (fs : Frames) → length (puts_of fs) ≡ fs.count
+length-puts_of fs =
     let p = fs.places in
     let f = fs.few in
     length-map (take fs.count fs.all) frame_of ∙ length-take-le fs.count fs.all (omega arith)

@@ -9,7 +9,7 @@ use Rattle.frames.specs.Types.{name_of, names_of}
 use Rattle.head.specs.Slots.{Slot, unknown, ack, bare, known, over, nth_slot, cells, size}
 use Rattle.head.specs.Queue.{Queue, highest, all_unknown}
 use Rattle.head.specs.Head.{Head, Kept, Pending, fill_in, filled_by, numbered_in, low, place, sweep, set_slots}
-use Rattle.frames.proofs.Naming.{length_names_of, named_at}
+use Rattle.frames.proofs.Naming.{length-names_of, named_at}
 use Rattle.head.proofs.Slots.{nth_out}
 use Rattle.head.proofs.Names.{all_unknown_at}
 use Rattle.store.specs.declared.types.Queue.{Queue as CQueue}
@@ -25,7 +25,7 @@ nth_bare (x ∷ xs) (suc i) z h =
     cond-false (eqb (suc i) 0) (bare x) (nth_slot xs (suc i - 1)) (ne_eqb (suc i) 0 (λ f. omega arith)) ∙ (ap (nth_slot xs) e ∙ nth_bare xs i z (omega arith))
 
 pub names_at : (ns : Names) (i : ℕ) (z : CName) → i < ns.count → nth_slot (names_of ns) i ≡ bare (name_of (get_or ns.all i z))
-names_at ns i z h = nth_bare (names_of ns) i (name_of z) (omega (arith, length_names_of ns)) ∙ ap bare (named_at ns i z h)
+names_at ns i z h = nth_bare (names_of ns) i (name_of z) (omega (arith, length-names_of ns)) ∙ ap bare (named_at ns i z h)
 
 filled_over : (x : Name) (o : Option Kept) (y : Slot) → over (filled_by x o) y ≡ filled_by x o
 filled_over x None y = refl

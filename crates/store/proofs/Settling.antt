@@ -12,7 +12,7 @@ use Rattle.store.specs.declared.types.Slot.{Slot as CSlot}
 use Rattle.store.specs.declared.types.Slot.TheVariants.{Unknown, Ack as CAck, Data}
 use Rattle.store.specs.declared.types.Queue.{Queue as CQueue}
 use Rattle.store.specs.Parts.{slot_of, queue_of, table_of, low_of, part, Passed, Ends, Own}
-use Rattle.frames.proofs.Naming.{length_names_of}
+use Rattle.frames.proofs.Naming.{length-names_of}
 use Rattle.head.proofs.Upkeep.{give_up_some, give_up_none}
 use Rattle.store.proofs.View.{queue_in, queue_past}
 use Rattle.store.proofs.Walks.{highest_same, highest_forward, highest_cap}
@@ -20,7 +20,7 @@ use Rattle.store.proofs.Walks.{highest_same, highest_forward, highest_cap}
 module _ (n due : ℕ) (x : CQueue) (h : Head) where
   pub ready_ack : (i : ℕ) (ns : Names) (b : Bool) → n < acks (queue_of x.base x.slots) 96 x.base → ltb (x.base + ns.count) due ≡ b → ready n (part h due x) (ack i (names_of ns)) ≡ cond b (Some ns.count) None
   ready_ack i ns b m e =
-      ap (λ l. cond (ltb n (acks (queue_of x.base x.slots) 96 x.base) && ltb (x.base + l) due) (Some l) None) (length_names_of ns)
+      ap (λ l. cond (ltb n (acks (queue_of x.base x.slots) 96 x.base) && ltb (x.base + l) due) (Some l) None) (length-names_of ns)
       ∙ (ap (λ t. cond (t && ltb (x.base + ns.count) due) (Some ns.count) None) (lt-ltb n (acks (queue_of x.base x.slots) 96 x.base) m) ∙ ap (λ t. cond t (Some ns.count) None) e)
 
   pub ready_few : (s : Slot) → acks (queue_of x.base x.slots) 96 x.base ≤ n → ready n (part h due x) s ≡ None

@@ -2,8 +2,8 @@ use Rattle.std.proofs.Common.{◌≡◌, true, [], ◌∷◌, ◌++◌, length, 
 use Rattle.std.proofs.lemmas.Result.{err_from_is_err_and}
 use Rattle.std.proofs.lemmas.Bool.{cond-true, lt-ltb}
 use Rattle.frames.specs.Types.{name_of, names_of}
-use Rattle.frames.proofs.Naming.{length_names_of, rest_pushed}
-use Rattle.frames.proofs.Steps.{read_stops, read_more, read_ends, length_names_in}
+use Rattle.frames.proofs.Naming.{length-names_of, rest_pushed}
+use Rattle.frames.proofs.Steps.{read_stops, read_more, read_ends, length-names_in}
 use Rattle.frames.proofs.read.read_names.Goals as goal
 
 pub returns-in_err-name : goal.returns-in_err-name
@@ -18,8 +18,8 @@ loop-i-preserved c =
     let xs = names_of c.loop-i.names in
     let x = name_of c.in_ok-name.name in
     let m = read_more n i c.args.bytes.now x xs c.loop-i.invariant.0 c.loop-i.invariant.1 c.in_ok-name.ensures in
-    let l : length xs ≡ i = ap length c.loop-i.invariant.0 ∙ length_names_in i _ in
-    let k = length_names_of c.loop-i.names in
+    let l : length xs ≡ i = ap length c.loop-i.invariant.0 ∙ length-names_in i _ in
+    let k = length-names_of c.loop-i.names in
     let r : c.push.result ≡ true = c.push.ensures.answer ∙ lt-ltb c.loop-i.names.count 4 (omega arith) in
     (c.push.ensures.after ∙ (cond-true c.push.result (xs ++ x ∷ []) xs r ∙ m.0), m.1, rest_pushed c.loop-i.names c.push.new.self c.in_ok-name.name c.push.result c.push.ensures.places c.push.ensures.count c.loop-i.invariant.2)
 

@@ -3,7 +3,7 @@ use native.Mathlib.Nat.{sub-zero}
 use Rattle.frames.specs.Types.{body_of, name_of}
 use Rattle.frames.specs.Written.{name_then}
 use Rattle.frames.proofs.Fronts.{two_parts}
-use Rattle.frames.proofs.Naming.{length_body_of}
+use Rattle.frames.proofs.Naming.{length-body_of}
 use Rattle.frames.proofs.write.write_data.Goals as goal
 
 pub returns : goal.returns
@@ -14,5 +14,5 @@ returns c n =
     let e : c.put.new.out ≡ front b.len ++ drop 8 out = simp (c.put.ensures, c.to_be_bytes-number.ensures) in
     subst
     (λ z. c.put-2.new.out ≡ (front z ++ body_of b) ++ drop (length (front z ++ body_of b)) out)
-    (sym (length_body_of b))
+    (sym (length-body_of b))
     (two_parts out _ _ (front b.len) (body_of b) e (simp sub-zero at c.put-2.ensures))

@@ -5,7 +5,7 @@ use Rattle.frames.specs.Values.{frame_ok}
 use Rattle.frames.specs.Types.{names_of, frame_of}
 use Rattle.frames.specs.Written.{written, front_written}
 use Rattle.frames.proofs.Fronts.{length_names}
-use Rattle.frames.proofs.Naming.{length_names_of, issuer_small}
+use Rattle.frames.proofs.Naming.{length-names_of, issuer_small}
 use Rattle.frames.proofs.write.write_front.Goals as goal
 
 pub write_ack-requires : goal.write_ack-requires
@@ -16,7 +16,7 @@ write_ack-requires c =
     let r : length (written n (frame_of f)) ≤ length c.args.out.now = subst (λ (g : Frame). length (written n (frame_of g)) ≤ length c.args.out.now) c.in-Ack.is c.requires.room in
     let s : c.in-Ack.issuer < n = issuer_small n _ _ ns (subst (λ (g : Frame). frame_ok n (frame_of g) ≡ true) c.in-Ack.is c.requires.suits) in
     let k = length_names (names_of ns) in
-    let l = length_names_of ns in
+    let l = length-names_of ns in
     record { room = omega arith; issuer = omega (arith, c.args.size.most) }
 
 -- the frame that the arm has is the one handed in

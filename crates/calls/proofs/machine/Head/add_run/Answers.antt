@@ -1,6 +1,6 @@
 use Rattle.std.proofs.Common.{◌+◌, ◌-◌, ltb, length, sym, ap, ◌∙◌, arith}
 use Rattle.frames.specs.Types.{names_of}
-use Rattle.frames.proofs.Naming.{length_names_of}
+use Rattle.frames.proofs.Naming.{length-names_of}
 use Rattle.store.specs.Parts.{inbox_of, table_of}
 use Rattle.calls.proofs.Gathering.{kept_past, run_none, run_stops, run_over, run_cut, run_goes_on}
 use Rattle.calls.proofs.machine.Head.add_run.Goals as goal
@@ -13,12 +13,12 @@ returns-in-None c =
 
 pub returns-then-not-push : goal.returns-then-not-push
 returns-then-not-push c =
-    let l = ap (λ k. ltb k 4) (sym (length_names_of c.loop-place.names)) in
+    let l = ap (λ k. ltb k 4) (sym (length-names_of c.loop-place.names)) in
     run_cut (inbox_of c.args.self.now.inbox) c.args.source (names_of c.loop-place.names) _ _ _ _ c.if-not-push.true (c.push.ensures.answer ∙ l) c.push.ensures.after ∙ c.loop-place.invariant
 
 pub loop-place-preserved : goal.loop-place-preserved
 loop-place-preserved c =
-    let l = ap (λ k. ltb k 4) (sym (length_names_of c.loop-place.names)) in
+    let l = ap (λ k. ltb k 4) (sym (length-names_of c.loop-place.names)) in
     run_goes_on (inbox_of c.args.self.now.inbox) c.args.source (names_of c.loop-place.names) _ _ _ _ _ (sym c.in-Some.ensures) (omega arith) c.if-not-push.false (c.push.ensures.answer ∙ l) c.push.ensures.after ∙ c.loop-place.invariant
 
 pub returns : goal.returns

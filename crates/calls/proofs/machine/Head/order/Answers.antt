@@ -1,7 +1,7 @@
 use Rattle.std.proofs.Common.{◌≡◌, [], ◌∷◌, Some, sym, refl, ap, ◌∙◌}
 use Rattle.frames.specs.Types.{names_of}
 use Rattle.frames.specs.Values.{Ack, Frame, ack_frame}
-use Rattle.frames.proofs.Naming.{length_names_of}
+use Rattle.frames.proofs.Naming.{length-names_of}
 use Rattle.head.specs.Upkeep.{settled}
 use Rattle.head.specs.Answers.{ordered}
 use Rattle.head.specs.Turn.{new_ack}
@@ -23,7 +23,7 @@ returns-then-names-eq0 c =
     let x = c.args.self.now in
     let n = x.size.heads in
     let d = c.new-then-names-eq0.ensures in
-    let l = length_names_of c.gather-names.result in
+    let l = length-names_of c.gather-names.result in
     record { size = refl; after = did_as turned c.new-then-names-eq0.result (settled n (model x)) _ _ d.answer d.puts d.issued ∙ sym (turn_nothing n (model x) _ (sym c.if-not-holds_token.ensures) c.gather-names.ensures (l ∙ c.if-names-eq0.true)) }
 
 pub returns-then-not-has_room : goal.returns-then-not-has_room
@@ -46,7 +46,7 @@ returns c =
     let ns = c.gather-names.result in
     let e = c.issue-ack.ensures in
     let a : ◌≡◌ {A = Ack} _ (new_ack (model x) (names_of ns)) = e.ack in
-    let l = sym (length_names_of ns) in
+    let l = sym (length-names_of ns) in
     let fs : puts_of c.of.result ≡ ack_frame (new_ack (model x) (names_of ns)) ∷ [] = c.of.ensures ∙ ap (λ (f : Frame). f ∷ []) (c.frame.ensures ∙ ap ack_frame a) in
     let h = e.after in
     record {

@@ -1,7 +1,7 @@
 use Rattle.std.proofs.Common.{◌≡◌, suc, true, false, ◌&&◌, eqb, [], sym, refl, ap, ◌∙◌, arith}
 use Rattle.std.proofs.lemmas.Bool.{eq-eqb, ne_eqb, and_from, and_left, and_right}
 use Rattle.frames.specs.Types.{names_of}
-use Rattle.frames.proofs.Naming.{length_names_of}
+use Rattle.frames.proofs.Naming.{length-names_of}
 use Rattle.head.specs.Slots.{same_names}
 use Rattle.head.specs.Queue.{Queue, all_unknown}
 use Rattle.head.specs.Head.{Head}
@@ -59,7 +59,7 @@ place-requires c =
     let k = ack_of c.args.stamp c.args.issuer ns in
     let q : Queue = queue_of x.queue.base x.queue.slots in
     let e = sym c.if-contradicts.ensures in
-    record { room = sym c.if-not-has_places.ensures; stamps = c.requires; own = new_own (model x) k e; free = ap (λ n. all_unknown q (suc n) c.args.stamp) (sym (length_names_of ns)) ∙ new_free x.size.heads (model x) k e }
+    record { room = sym c.if-not-has_places.ensures; stamps = c.requires; own = new_own (model x) k e; free = ap (λ n. all_unknown q (suc n) c.args.stamp) (sym (length-names_of ns)) ∙ new_free x.size.heads (model x) k e }
 
 pub returns : goal.returns
 returns c =

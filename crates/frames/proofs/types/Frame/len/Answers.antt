@@ -4,14 +4,14 @@ use Rattle.frames.specs.declared.types.Frame.TheVariants.{Ack}
 use Rattle.frames.specs.Types.{names_of, frame_of}
 use Rattle.frames.specs.Written.{written}
 use Rattle.frames.proofs.Fronts.{length_names}
-use Rattle.frames.proofs.Naming.{length_names_of}
+use Rattle.frames.proofs.Naming.{length-names_of}
 use Rattle.frames.proofs.types.Frame.len.Goals as goal
 
 pub returns-in-Ack : goal.returns-in-Ack
 returns-in-Ack c =
     let ns = c.in-Ack.names in
     let k = length_names (names_of ns) in
-    let l = length_names_of ns in
+    let l = length-names_of ns in
     record {
       value = λ n.
           let e : 8 + 6 * ns.count ≡ length (written n (frame_of (Ack c.in-Ack.stamp c.in-Ack.issuer ns))) = omega arith in

@@ -2,13 +2,13 @@ use Rattle.std.proofs.Common.{◌≡◌, ◌++◌, length, Option, sym, ap, ◌�
 use Rattle.frames.specs.declared.types.Frame.{Frame}
 use Rattle.store.specs.Look.{put_of}
 use Rattle.store.specs.Puts.{puts_of}
-use Rattle.store.proofs.Looking.{length_puts_of, puts_more}
+use Rattle.store.proofs.Looking.{length-puts_of, puts_more}
 use Rattle.store.proofs.types.Frames.add.Goals as goal
 
 pub returns-in-Some : goal.returns-in-Some
 returns-in-Some c =
     let fs = c.args.self.now in
-    let l = length_puts_of fs in
+    let l = length-puts_of fs in
     let p = fs.places in
     let room = c.requires in
     let one : length (put_of c.args.frame) ≡ 1 = ap (λ (o : Option Frame). length (put_of o)) c.in-Some.is in

@@ -2,7 +2,7 @@ use Rattle.std.proofs.Common.{◌+◌, get_or, refl, ◌∙◌, arith}
 use Rattle.frames.specs.Types.{name_of}
 use Rattle.store.specs.declared.types.Slot.TheVariants.{Ack as CAck}
 use Rattle.store.specs.Parts.{queue_of, inbox_of, ack_of}
-use Rattle.frames.proofs.Naming.{length_names_of}
+use Rattle.frames.proofs.Naming.{length-names_of}
 use Rattle.store.proofs.View.{queue_set}
 use Rattle.store.proofs.Placing.{laid_none, laid_more, laid_all, names_at}
 use Rattle.store.proofs.types.Queue.set_from.Goals as goal
@@ -31,5 +31,5 @@ returns c =
     record {
       base = c.loop-i.invariant.0;
       gone = c.loop-i.invariant.1;
-      slots = c.loop-i.invariant.2 ∙ laid_all (inbox_of c.args.inbox.now) (ack_of (s.base + c.args.at) c.args.issuer ns) (queue_of s.base s.slots) _ c.loop-i.i (omega (arith, length_names_of ns)) (queue_set s.base s.slots c.args.at (CAck c.args.issuer ns) (omega arith));
+      slots = c.loop-i.invariant.2 ∙ laid_all (inbox_of c.args.inbox.now) (ack_of (s.base + c.args.at) c.args.issuer ns) (queue_of s.base s.slots) _ c.loop-i.i (omega (arith, length-names_of ns)) (queue_set s.base s.slots c.args.at (CAck c.args.issuer ns) (omega arith));
     }
