@@ -6,6 +6,8 @@ pub mod Placing
 pub mod Hearing
 pub mod Nacks
 pub mod Pendings
+pub mod Sending
+pub mod Members
 pub mod Gathering
 pub mod Issuing
 pub mod Turning

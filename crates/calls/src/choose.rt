@@ -7,6 +7,7 @@ ghost use Rattle.store.specs.Look.{put_of};
 ghost use Rattle.store.specs.Parts.{inbox_of, table_of};
 ghost use Rattle.calls.specs.Choice.{kept_at, sent_of};
 ghost use Rattle.calls.specs.Model.{model};
+ghost use Rattle.calls.specs.Sendable.{Sendable};
 
 use crate::answers::Message;
 use crate::machine::Head;
@@ -17,6 +18,7 @@ impl Head {
     fn message(&self, source: u8, place: u32) -> Option<Message>
         requires head { source < 8 }
         requires near { place < 4 }
+        requires sendable { Sendable (model self.now) }
         ensures { sent_of result ≡ kept_at (inbox_of self.now.inbox) source (table_of self.now.inbox.low source + (place + 1)) }
     {
         let window = self.inbox.pending[source as usize];
@@ -40,7 +42,8 @@ impl Head {
 
     // Adds the run of a source that begins after its low, while there is room.
     fn add_run(&self, source: u8, names: &mut Names)
-        requires { source < 8 }
+        requires head { source < 8 }
+        requires sendable { Sendable (model self.now) }
         ensures { names_of names.new ≡ names_of names.old ++ run_of (inbox_of self.now.inbox) source (4 - length (names_of names.old)) (suc (table_of self.now.inbox.low source)) }
     {
         for place in 0..4u32 {
@@ -57,6 +60,7 @@ impl Head {
 
     // Up to four names to order: the run of each source, from this head's own on round the ring.
     pub(crate) fn gather(&self) -> Names
+        requires { Sendable (model self.now) }
         ensures { names_of result ≡ to_order self.now.size.heads (model self.now) }
     {
         let mut names = Names::none();
@@ -70,6 +74,7 @@ impl Head {
 
     // The Data frame of this head's own pending message with the lowest number.
     pub(crate) fn lowest_own(&self) -> Option<Frame>
+        requires { Sendable (model self.now) }
         ensures { put_of result ≡ own_message (model self.now) }
     {
         for place in 0..4 {

@@ -3,7 +3,7 @@ ghost use Rattle.std.specs.Prelude.{◌≡◌, ◌+◌, ◌<◌, ◌≤◌, true
 ghost use Rattle.frames.specs.Types.{name_of, message_of, asked_of};
 ghost use Rattle.head.specs.Slots.{named};
 ghost use Rattle.head.specs.Queue.{names_it};
-ghost use Rattle.head.specs.Hear.{hear_slot, hear_unslotted, hear_data as m_hear_data, hear_ack as m_hear_ack, hear_nack as m_hear_nack, hear as m_hear, asks, own_above};
+ghost use Rattle.head.specs.Hear.{hear_slot, hear_unslotted, hear_data as m_hear_data, hear_ack as m_hear_ack, hear_nack as m_hear_nack, hear as m_hear, asks};
 ghost use Rattle.store.specs.Parts.{ack_of};
 ghost use Rattle.calls.specs.Model.{model};
 ghost use Rattle.calls.specs.Answers.{did, does, heard, heard_before, heard_after};
@@ -52,7 +52,6 @@ impl Head {
 
     // No slot names the message.
     fn take_unslotted(&mut self, name: Name, body: Body) -> Result<Heard, Refusal>
-        requires { own_above (model self.old) (name_of name) ≡ false }
         ensures size { self.new.size ≡ self.old.size }
         ensures after { heard_before self.old.size.heads result (model self.new) ≡ hear_unslotted self.old.size.heads (model self.old) (message_of name body) }
     {

@@ -9,6 +9,8 @@ pub mod done;
 pub mod fresh;
 pub mod hear;
 pub mod machine;
+pub mod member;
+pub mod member_calls;
 pub mod memory;
 pub mod place;
 pub mod questions;

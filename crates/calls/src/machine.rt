@@ -1,12 +1,12 @@
 // A head, and what it keeps true.
 ghost use Rattle.std.specs.Prelude.{◌≡◌, ℕ, ◌+◌, ◌<◌, ◌≤◌};
-ghost use Rattle.store.specs.Parts.{table_of, low_of, inbox_of, Passed, Ends, Own, Most};
+ghost use Rattle.store.specs.Parts.{table_of, low_of, Passed, Ends, Own};
 
 use frames::types::RingSize;
 use store::types::{Inbox, Queue};
 
 // due: the next stamp to deliver. What is before it is known, no stamp past the last is known,
-// no own number above made is named or pending, none above the last number is pending, and low is what the queue says.
+// no own number above made is named, and low is what the queue says.
 #[derive(Clone, Copy)]
 pub struct Head {
     pub size: RingSize,
@@ -22,7 +22,5 @@ pub struct Head {
     ghost passed: { Passed queue due },
     ghost ends: { Ends queue },
     ghost own: { Own me made queue },
-    ghost unmade: { Most me made (inbox_of inbox) },
-    ghost numbered: { (s : ℕ) → Most s 500000 (inbox_of inbox) },
     ghost lows: { (s : ℕ) → table_of inbox.low s ≡ low_of queue s },
 }

@@ -8,6 +8,7 @@ ghost use Rattle.head.specs.Upkeep.{settled};
 ghost use Rattle.store.specs.Look.{put_of};
 ghost use Rattle.calls.specs.Answers.{did, ticked};
 ghost use Rattle.calls.specs.Model.{model};
+ghost use Rattle.calls.specs.Sendable.{Sendable};
 
 use crate::answers::{Done, Ticked};
 use crate::machine::Head;
@@ -32,6 +33,7 @@ impl Head {
 
     // With no new ACK: the NACK, if one is wanted, and what is its own. Before the upkeep.
     fn fire(&mut self, nack: Option<Frame>) -> Done<Ticked>
+        requires { Sendable (model self.old) }
         ensures size { self.new.size ≡ self.old.size }
         ensures after { did ticked result (settled self.old.size.heads (model self.new)) ≡ m_fire self.old.size.heads (model self.old) (put_of nack) }
     {
@@ -49,6 +51,7 @@ impl Head {
     fn fire_ack(&mut self, names: Names) -> Done<Ticked>
         requires room { room (model self.old) ≡ true }
         requires stamps { stamps_left (model self.old) ≡ true }
+        requires sendable { Sendable (model self.old) }
         requires chosen { names_of names ≡ to_order self.old.size.heads (model self.old) }
         ensures size { self.new.size ≡ self.old.size }
         ensures after { did ticked result (settled self.old.size.heads (model self.new)) ≡ m_fire_ack self.old.size.heads (model self.old) (names_of names) }
@@ -71,6 +74,7 @@ impl Head {
 
     // Nothing is missing: an ACK where one is due. Before the upkeep.
     fn pass_token(&mut self) -> Done<Ticked>
+        requires { Sendable (model self.old) }
         ensures size { self.new.size ≡ self.old.size }
         ensures after { did ticked result (settled self.old.size.heads (model self.new)) ≡ tick_token self.old.size.heads (model self.old) }
     {
@@ -86,6 +90,7 @@ impl Head {
 
     // Before the upkeep.
     fn count_tick(&mut self) -> Done<Ticked>
+        requires { Sendable (model self.old) }
         ensures size { self.new.size ≡ self.old.size }
         ensures after { did ticked result (settled self.old.size.heads (model self.new)) ≡ m_tick self.old.size.heads (model self.old) }
     {
@@ -106,7 +111,8 @@ impl Head {
     }
 
     // One tick: idle until the wait is over.
-    pub fn tick(&mut self) -> Done<Ticked>
+    pub(crate) fn tick(&mut self) -> Done<Ticked>
+        requires { Sendable (model self.old) }
         ensures size { self.new.size ≡ self.old.size }
         ensures after { did ticked result (model self.new) ≡ m_tick self.old.size.heads (model self.old) }
     {

@@ -5,6 +5,7 @@ ghost use Rattle.head.specs.Head.{holds, next_of, place, room, stamps_left, top}
 ghost use Rattle.head.specs.Turn.{new_ack, to_order};
 ghost use Rattle.store.specs.Parts.{ack_of};
 ghost use Rattle.calls.specs.Model.{model};
+ghost use Rattle.calls.specs.Sendable.{Sendable};
 
 use crate::machine::Head;
 use frames::types::Names;
@@ -46,8 +47,10 @@ impl Head {
     pub(crate) fn issue(&mut self, names: Names) -> Top
         requires room { room (model self.old) ≡ true }
         requires stamps { stamps_left (model self.old) ≡ true }
+        requires sendable { Sendable (model self.old) }
         requires chosen { names_of names ≡ to_order self.old.size.heads (model self.old) }
         ensures size { self.new.size ≡ self.old.size }
+        ensures sendable { Sendable (model self.new) }
         ensures ack { ack_of result.stamp result.issuer result.names ≡ new_ack (model self.old) (names_of names) }
         ensures names { result.names ≡ names }
         ensures after { model self.new ≡ place (model self.old) (new_ack (model self.old) (names_of names)) }

@@ -3,6 +3,7 @@ ghost use Rattle.std.specs.Prelude.{◌≡◌};
 ghost use Rattle.head.specs.Turn.{turn as m_turn};
 ghost use Rattle.calls.specs.Answers.{does, does_before, turned};
 ghost use Rattle.calls.specs.Model.{model};
+ghost use Rattle.calls.specs.Sendable.{Sendable};
 
 use crate::answers::{Done, Turned};
 use crate::machine::Head;
@@ -12,6 +13,7 @@ use store::types::Frames;
 impl Head {
     // Before the upkeep.
     fn order(&mut self) -> Result<Done<Turned>, Refusal>
+        requires { Sendable (model self.old) }
         ensures size { self.new.size ≡ self.old.size }
         ensures after { does_before self.old.size.heads turned result (model self.new) ≡ m_turn self.old.size.heads (model self.old) }
     {
@@ -40,7 +42,8 @@ impl Head {
     }
 
     // Orders up to four pending messages, if this head holds the token.
-    pub fn turn(&mut self) -> Result<Done<Turned>, Refusal>
+    pub(crate) fn turn(&mut self) -> Result<Done<Turned>, Refusal>
+        requires { Sendable (model self.old) }
         ensures size { self.new.size ≡ self.old.size }
         ensures after { does turned result (model self.new) ≡ m_turn self.old.size.heads (model self.old) }
     {

@@ -57,7 +57,7 @@ module _ (n : ℕ) (x : Head) (i : InOrder x) where
   hear_in_order d (HearLeaves.refuses e q) = subst InOrder (sym (ap head_of q)) i
   hear_in_order d (HearLeaves.stays w m q) = ends_in_order d x (ap head_of q) i
   hear_in_order d (HearLeaves.resends f q) = ends_in_order d x (ap head_of q) i
-  hear_in_order d (HearLeaves.keeps m p w o q) = ends_in_order d (with_pending x p) (ap head_of q) (record { full_to_due = i.full_to_due; none_past = i.none_past })
+  hear_in_order d (HearLeaves.keeps m p v w o q) = ends_in_order d (with_pending x p) (ap head_of q) (record { full_to_due = i.full_to_due; none_past = i.none_past })
   hear_in_order d (HearLeaves.fills t m r f q) = ends_in_order d (with_clock (with_queue x r) 0 0) (ap head_of q) (filled_in_order t m r f)
   hear_in_order d (HearLeaves.places a r p o q) = ends_in_order d (with_placed x r p) (ap head_of q) (placed_in_order a r p o)
 

@@ -1,5 +1,5 @@
 -- What each call leaves of a head as it was.
-use Rattle.std.proofs.Common.{◌≡◌, ℕ, suc, ◌+◌, ◌-◌, ◌<◌, ◌≤◌, min, true, not, ◌&&◌, eqb, ltb, leb, List, [], ◌∷◌, ◌++◌, length, Some, None, Ok, Err, Option, Result, sym, refl, ap, ◌∙◌, subst, inl, inr, arith}
+use Rattle.std.proofs.Common.{false, ◌≡◌, ℕ, suc, ◌+◌, ◌-◌, ◌<◌, ◌≤◌, min, true, not, ◌&&◌, eqb, ltb, leb, List, [], ◌∷◌, ◌++◌, length, Some, None, Ok, Err, Option, Result, sym, refl, ap, ◌∙◌, subst, inl, inr, arith}
 use mathlib.Core.List.Memᴰ
 use Rattle.std.proofs.lemmas.Bool.{and_parts, leb-true, ltb-true, ltb-false}
 use Rattle.frames.specs.Bounds.{body_length_ok, level_ok, needs, number_ok}
@@ -82,18 +82,18 @@ module _ (n : ℕ) (x : Head) where
   slot_leaves m t (bare y) f o e q = by_bool Hears (eqb m.name.level y.level) _ _ (λ z. HearLeaves.fills t m (fill x t m).queue (fill_leaves x t m f o (e ∙ ap bare (sym (same_name_is m.name y q z)))) refl) (λ z. contradicted)
   slot_leaves m t (whole k) f o e q = by_bool Hears (eqb m.name.level k.name.level && same_bytes m.body k.body) _ _ (λ z. is_repeat) (λ z. contradicted)
 
-  pending_leaves : (m : Message) (r : Option Kept) → x.pending m.name.source m.name.number ≡ r → Hears (hear_pending n x m r)
+  pending_leaves : (m : Message) (r : Option Kept) → own_above x m.name ≡ false → x.pending m.name.source m.name.number ≡ r → Hears (hear_pending n x m r)
   unfolding keep
-  pending_leaves m None e = HearLeaves.keeps m (keep x m).pending e (keep_one x m) refl
-  pending_leaves m (Some k) e = by_bool Hears (same_kept m k) _ _ (λ z. is_repeat) (λ z. contradicted)
+  pending_leaves m None o e = HearLeaves.keeps m (keep x m).pending o e (keep_one x m) refl
+  pending_leaves m (Some k) o e = by_bool Hears (same_kept m k) _ _ (λ z. is_repeat) (λ z. contradicted)
 
-  known_leaves : (m : Message) (r : Option ℕ) → place_of x.queue m.name 96 x.base ≡ r → Hears (hear_known n x m r)
-  known_leaves m None e = by_bool Hears (leb m.name.number (low x m.name.source)) _ _ (λ z. is_repeat) (λ z. by_bool Hears (ltb (low x m.name.source + 4) m.name.number) _ _ (λ y. HearLeaves.stays Answer.far (Memᴰ.tail (Memᴰ.tail (Memᴰ.head refl))) refl) (λ y. pending_leaves m (x.pending m.name.source m.name.number) refl))
-  known_leaves m (Some t) e = let f : (x.base ≤ t) × (t < x.base + 96) × (names_it m.name (named (x.queue t)) ≡ true) = place_found x.queue m.name 96 x.base t e in slot_leaves m t (x.queue t) f.0 f.1 refl f.2
+  known_leaves : (m : Message) (r : Option ℕ) → own_above x m.name ≡ false → place_of x.queue m.name 96 x.base ≡ r → Hears (hear_known n x m r)
+  known_leaves m None o e = by_bool Hears (leb m.name.number (low x m.name.source)) _ _ (λ z. is_repeat) (λ z. by_bool Hears (ltb (low x m.name.source + 4) m.name.number) _ _ (λ y. HearLeaves.stays Answer.far (Memᴰ.tail (Memᴰ.tail (Memᴰ.head refl))) refl) (λ y. pending_leaves m (x.pending m.name.source m.name.number) o refl))
+  known_leaves m (Some t) o e = let f : (x.base ≤ t) × (t < x.base + 96) × (names_it m.name (named (x.queue t)) ≡ true) = place_found x.queue m.name 96 x.base t e in slot_leaves m t (x.queue t) f.0 f.1 refl f.2
 
   data_leaves : (m : Message) → Hears (hear_data n m x)
   unfolding hear_data
-  data_leaves m = by_bool Hears (own_above x m.name) _ _ (λ z. contradicted) (λ z. known_leaves m (place_of x.queue m.name 96 x.base) refl)
+  data_leaves m = by_bool Hears (own_above x m.name) _ _ (λ z. contradicted) (λ z. known_leaves m (place_of x.queue m.name 96 x.base) z refl)
 
   new_leaves : (a : Ack) → x.base ≤ a.stamp → a.stamp + size a ≤ x.base + 95 → Hears (hear_new n x a)
   unfolding place sweep set_slots
@@ -204,7 +204,7 @@ module _ (n : ℕ) (x : Head) where
   hear_counts d (HearLeaves.refuses e q) = subst (λ (z : Head). SameCounts x z) (sym (ap head_of q)) same_counts
   hear_counts d (HearLeaves.stays w m q) = kept_counts d x (ap head_of q) same_counts
   hear_counts d (HearLeaves.resends f q) = kept_counts d x (ap head_of q) same_counts
-  hear_counts d (HearLeaves.keeps m p w o q) = kept_counts d (with_pending x p) (ap head_of q) (record { me_same = refl; made_same = refl; due_same = refl })
+  hear_counts d (HearLeaves.keeps m p v w o q) = kept_counts d (with_pending x p) (ap head_of q) (record { me_same = refl; made_same = refl; due_same = refl })
   hear_counts d (HearLeaves.fills t m r f q) = kept_counts d (with_clock (with_queue x r) 0 0) (ap head_of q) (record { me_same = refl; made_same = refl; due_same = refl })
   hear_counts d (HearLeaves.places a r p o q) = kept_counts d (with_placed x r p) (ap head_of q) (record { me_same = refl; made_same = refl; due_same = refl })
 

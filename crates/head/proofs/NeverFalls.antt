@@ -71,7 +71,7 @@ module _ (n : ℕ) (x : Head) where
   hear_rises d (HearLeaves.refuses e q) = refused d (ap head_of q)
   hear_rises d (HearLeaves.stays w m q) = settles d x (ap head_of q) (later_same x)
   hear_rises d (HearLeaves.resends f q) = settles d x (ap head_of q) (later_same x)
-  hear_rises d (HearLeaves.keeps m p w o q) = settles d (with_pending x p) (ap head_of q) (pending_later x p)
+  hear_rises d (HearLeaves.keeps m p v w o q) = settles d (with_pending x p) (ap head_of q) (pending_later x p)
   hear_rises d (HearLeaves.fills t m r f q) = settles d (with_clock (with_queue x r) 0 0) (ap head_of q) (filled_later x t m r f)
   hear_rises d (HearLeaves.places a r p o q) = settles d (with_placed x r p) (ap head_of q) (placed_later x a r p o)
 

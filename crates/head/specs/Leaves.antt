@@ -11,7 +11,7 @@ use Rattle.head.specs.Head.{Head, Pending, fresh, mark, end, low, numbered_in, w
 use Rattle.head.specs.Upkeep.{settled}
 use Rattle.head.specs.Answers.{Answer, Done, done, refuse, made_it, quiet, repeat, filled, far, kept, crowded, placed, resent, nothing, not_yours, ordered, idle, fired, waiting, delivered}
 use Rattle.head.specs.Submit.{new_message, submit}
-use Rattle.head.specs.Hear.{hear}
+use Rattle.head.specs.Hear.{hear, own_above}
 use Rattle.head.specs.Turn.{turn}
 use Rattle.head.specs.Tick.{tick, wait}
 use Rattle.head.specs.Deliver.{deliver}
@@ -80,7 +80,7 @@ pub data HearLeaves (n : ℕ) (h : Head) (d : Done) : Type 0 where
   refuses : (e : Refusal) → d ≡ refuse e h → HearLeaves n h d
   stays : (w : Answer) → Memᴰ w (quiet ∷ repeat ∷ far ∷ crowded ∷ nothing ∷ []) → d ≡ done n w h [] → HearLeaves n h d
   resends : (f : Frame) → d ≡ done n resent h (f ∷ []) → HearLeaves n h d
-  keeps : (m : Message) (p : Pending) → h.pending m.name.source m.name.number ≡ None → WithOne h.pending m p → d ≡ done n kept (with_pending h p) [] → HearLeaves n h d
+  keeps : (m : Message) (p : Pending) → own_above h m.name ≡ false → h.pending m.name.source m.name.number ≡ None → WithOne h.pending m p → d ≡ done n kept (with_pending h p) [] → HearLeaves n h d
   fills : (t : ℕ) (m : Message) (q : Queue) → FilledAt h t m q → d ≡ done n filled (with_clock (with_queue h q) 0 0) [] → HearLeaves n h d
   places : (a : Ack) (q : Queue) (p : Pending) → Places h a q p → d ≡ done n placed (with_placed h q p) [] → HearLeaves n h d
 

@@ -10,8 +10,9 @@ use Rattle.head.specs.Head.{Head, fresh}
 use Rattle.head.specs.Answers.{Answer, Done, refused}
 use Rattle.head.specs.Ranges.{InRange, Writable}
 use Rattle.calls.specs.declared.answers.Done.{Done as CDone}
-use Rattle.calls.specs.declared.machine.Head.{Head as CHead}
-use Rattle.calls.specs.Model.{model}
+use Rattle.calls.specs.declared.member.Member.{Member}
+use Rattle.calls.specs.Members.{model_of}
+use Rattle.calls.proofs.Sending.{does_head}
 use Rattle.calls.specs.Answers.{does}
 use Rattle.ring.specs.declared.types.Heads.{Heads}
 use Rattle.ring.specs.Ring.{Ring, Call, Event, Step, Missed, Trip, started, then_call, then_miss, Takes, AfterPuts, perform, put_head}
@@ -23,8 +24,8 @@ use Rattle.ring.proofs.Tables.{Facts, facts, at_place, size_at, ranged_at, head_
 use Rattle.ring.proofs.Trip.{law, perform_writable}
 
 -- the call of the code on an element of a table
-pub acted : {A : Type 0} (g : ℕ) (c : Call) (t : Option (List ℕ)) (word : A → Answer) (d : Result (CDone A) Refusal) (hs : List CHead) (x y : CHead) → x ≡ get_or hs g x → y.size ≡ (get_or hs g x).size → does word d (model y) ≡ perform (get_or hs g x).size.heads c t (model (get_or hs g x)) → Acted g c t word d hs (set hs g y)
-acted g c t word d hs x y e s p = record { was = get_or hs g x; is = y; before = ap (λ (z : CHead). get_or hs g z) (sym e); after = refl; size = s; done = p }
+pub acted : {A : Type 0} (g : ℕ) (c : Call) (t : Option (List ℕ)) (word : A → Answer) (d : Result (CDone A) Refusal) (hs : List Member) (x y : Member) → x ≡ get_or hs g x → y.head.size ≡ (get_or hs g x).head.size → does word d (model_of y) ≡ perform (get_or hs g x).head.size.heads c t (model_of (get_or hs g x)) → Acted g c t word d hs (set hs g y)
+acted g c t word d hs x y e s p = record { was = get_or hs g x; is = y; before = ap (λ (z : Member). get_or hs g z) (sym e); after = refl; size = s; done = p }
 
 -- a step, or a call that missed, is one event more of every trip
 
@@ -53,10 +54,6 @@ missed x w g c b = made_move x w g c (refused NoSuchHead) x w (record { who = g;
 
 -- what was done, by its parts
 
-does_head : {A : Type 0} (word : A → Answer) (d : Result (CDone A) Refusal) (h : Head) → (does word d h).head ≡ h
-does_head word (Ok d) h = refl
-does_head word (Err e) h = refl
-
 does_puts : {A : Type 0} (word : A → Answer) (d : Result (CDone A) Refusal) (h : Head) → (does word d h).puts ≡ puts_in d
 does_puts word (Ok d) h = refl
 does_puts word (Err e) h = refl
@@ -65,42 +62,42 @@ does_answer : {A : Type 0} (word : A → Answer) (d : Result (CDone A) Refusal) 
 does_answer word (Ok d) h = refl
 does_answer word (Err e) h = refl
 
-module _ {A : Type 0} {g : ℕ} {c : Call} {t : Option (List ℕ)} {word : A → Answer} {d : Result (CDone A) Refusal} {ks : List CHead} (x : Heads) (b : g < x.size.heads) (a : Acted g c t word d x.all ks) where
+module _ {A : Type 0} {g : ℕ} {c : Call} {t : Option (List ℕ)} {word : A → Answer} {d : Result (CDone A) Refusal} {ks : List Member} (x : Heads) (b : g < x.size.heads) (a : Acted g c t word d x.all ks) where
   there : g < length x.all
   there = omega (arith, x.places, x.size.most)
 
-  was_sized : a.was.size.heads ≡ x.size.heads
+  was_sized : a.was.head.size.heads ≡ x.size.heads
   was_sized = sym (size_at x.size.heads x.all g a.was there a.before) ∙ x.sized g b
 
-  did_it : does word d (model a.is) ≡ perform x.size.heads c t (head_at x.all g)
+  did_it : does word d (model_of a.is) ≡ perform x.size.heads c t (head_at x.all g)
   did_it = a.done ∙ (λ j. perform (was_sized j) c t (sym (at_place x.all g a.was there a.before) j))
 
-  writable : Writable x.size.heads (does word d (model a.is))
+  writable : Writable x.size.heads (does word d (model_of a.is))
   writable = subst (Writable x.size.heads) (sym did_it) (perform_writable x.size.heads c t (head_at x.all g) (ranged_at x.size.heads x.all (facts x) g b))
 
   -- the heads after the call are in their ranges
   pub facts_after : Facts x.size.heads ks
-  facts_after = subst (Facts x.size.heads) (sym a.after) (facts_set x.all g a.is there x.size.heads (facts x) (ap (λ s. s.heads) a.size ∙ was_sized) (subst (InRange x.size.heads) (does_head word d (model a.is)) writable.after))
+  facts_after = subst (Facts x.size.heads) (sym a.after) (facts_set x.all g a.is there x.size.heads (facts x) (ap (λ s. s.heads) a.size ∙ was_sized) (subst (InRange x.size.heads) (does_head word d (model_of a.is)) writable.after))
 
   -- what it puts can be written
   pub all_written : (f : Frame) → Memᴰ f (puts_in d) → frame_ok x.size.heads f ≡ true
-  all_written f m = writable.frames_ok f (subst (Memᴰ f) (sym (does_puts word d (model a.is))) m)
+  all_written f m = writable.frames_ok f (subst (Memᴰ f) (sym (does_puts word d (model_of a.is))) m)
 
   -- with what was taken before it and put after it
   pub moved : (y : Heads) → y.size ≡ x.size → y.all ≡ ks → (w u v : Waits) → Takes c g t w u → AfterPuts (map (written x.size.heads) (puts_in d)) u v → (r : Result A Refusal) → r ≡ answer_in d → Moved x w g c (answered word r) y v
   moved y z l w u v k p r e =
       made_move x w g c (answered word r) y v
-      (record { who = g; call = c; taken = t; answer = answered word r; put = map (written x.size.heads) (puts_in d); issued = (does word d (model a.is)).issued })
+      (record { who = g; call = c; taken = t; answer = answered word r; put = map (written x.size.heads) (puts_in d); issued = (does word d (model_of a.is)).issued })
       z refl refl refl
       (inl (record {
         between = u;
         within = b;
         takes = k;
-        answers = ap (answered word) e ∙ (sym (does_answer word d (model a.is)) ∙ ap (λ (q : Done). q.answer) did_it);
-        puts = ap (map (written x.size.heads)) (sym (does_puts word d (model a.is)) ∙ ap (λ (q : Done). q.puts) did_it);
+        answers = ap (answered word) e ∙ (sym (does_answer word d (model_of a.is)) ∙ ap (λ (q : Done). q.answer) did_it);
+        puts = ap (map (written x.size.heads)) (sym (does_puts word d (model_of a.is)) ∙ ap (λ (q : Done). q.puts) did_it);
         issues = ap (λ (q : Done). q.issued) did_it;
         linked = p;
-        heads = ap head_at (l ∙ a.after) ∙ (head_set x.all g a.is there ∙ ap (put_head (head_at x.all) g) (sym (does_head word d (model a.is)) ∙ ap (λ (q : Done). q.head) did_it));
+        heads = ap head_at (l ∙ a.after) ∙ (head_set x.all g a.is there ∙ ap (put_head (head_at x.all) g) (sym (does_head word d (model_of a.is)) ∙ ap (λ (q : Done). q.head) did_it));
       }))
 
 -- the start

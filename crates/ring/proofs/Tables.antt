@@ -4,29 +4,29 @@ use Rattle.std.proofs.lemmas.List.{get_or-map, get_or-set_same, get_or-set_other
 use Rattle.std.proofs.lemmas.Bool.{cases_eq, cond_both, eqb-true}
 use Rattle.head.specs.Head.{Head, Kept, fresh}
 use Rattle.head.specs.Ranges.{InRange, slot_ok}
-use Rattle.calls.specs.declared.machine.Head.{Head as CHead}
-use Rattle.calls.specs.Model.{model}
+use Rattle.calls.specs.declared.member.Member.{Member}
+use Rattle.calls.specs.Members.{model_of}
 use Rattle.ring.specs.declared.types.Heads.{Heads}
 use Rattle.ring.specs.Ring.{put_head}
 use Rattle.ring.specs.Table.{head_at, kept_ok, Sized, Numbered, KeptRanged, SlotsRanged}
 use Rattle.ring.proofs.Advance.{put_same, put_other}
 
 -- what is known of the heads of a ring
-abbrev pub Facts : ℕ → List CHead → Type 0
+abbrev pub Facts : ℕ → List Member → Type 0
 Facts n hs = record { places : length hs ≡ 8; sized : Sized n hs; numbered : Numbered n hs; kept : KeptRanged n hs; slots : SlotsRanged n hs }
 
 pub facts : (x : Heads) → Facts x.size.heads x.all
 facts x = record { places = x.places; sized = x.sized; numbered = x.numbered; kept = x.kept; slots = x.slots }
 
 -- the head at a place
-pub at_place : (hs : List CHead) (g : ℕ) (x : CHead) → g < length hs → get_or hs g x ≡ x → head_at hs g ≡ model x
+pub at_place : (hs : List Member) (g : ℕ) (x : Member) → g < length hs → get_or hs g x ≡ x → head_at hs g ≡ model_of x
 unfolding head_at
-at_place hs g x h e = get_or-map model hs g x (fresh g) h ∙ ap model e
+at_place hs g x h e = get_or-map model_of hs g x (fresh g) h ∙ ap model_of e
 
-pub size_at : (n : ℕ) (hs : List CHead) (g : ℕ) (x : CHead) → g < length hs → get_or hs g x ≡ x → get_or (map (λ (h : CHead). h.size.heads) hs) g n ≡ x.size.heads
-size_at n hs g x h e = get_or-map (λ (h : CHead). h.size.heads) hs g x n h ∙ ap (λ (h : CHead). h.size.heads) e
+pub size_at : (n : ℕ) (hs : List Member) (g : ℕ) (x : Member) → g < length hs → get_or hs g x ≡ x → get_or (map (λ (h : Member). h.head.size.heads) hs) g n ≡ x.head.size.heads
+size_at n hs g x h e = get_or-map (λ (h : Member). h.head.size.heads) hs g x n h ∙ ap (λ (h : Member). h.head.size.heads) e
 
-pub ranged_at : (n : ℕ) (hs : List CHead) → Facts n hs → (g : ℕ) → g < n → InRange n (head_at hs g)
+pub ranged_at : (n : ℕ) (hs : List Member) → Facts n hs → (g : ℕ) → g < n → InRange n (head_at hs g)
 ranged_at n hs f g b = record {
   one_of_n = (f.numbered g b).0;
   from_one = (f.numbered g b).1;
@@ -43,39 +43,39 @@ pub all_kept : (n : ℕ) (x : Head) → InRange n x → (s k : ℕ) (o : Option 
 all_kept n x r s k None e = refl
 all_kept n x r s k (Some p) e = r.pending_ok s k p e
 
-module _ (hs : List CHead) (g : ℕ) (y : CHead) (h : g < length hs) where
-  head_set_at : (k : ℕ) → head_at (set hs g y) k ≡ put_head (head_at hs) g (model y) k
+module _ (hs : List Member) (g : ℕ) (y : Member) (h : g < length hs) where
+  head_set_at : (k : ℕ) → head_at (set hs g y) k ≡ put_head (head_at hs) g (model_of y) k
   unfolding head_at
   head_set_at k =
-      let l = length-map hs model in
-      ap (λ (ms : List Head). get_or ms k (fresh k)) (map-set model hs g y) ∙ elim (cases_eq k g) [
-        | inl e ↦ ap (λ (i : ℕ). get_or (set (map model hs) g (model y)) i (fresh k)) e ∙ (get_or-set_same (map model hs) g (model y) (fresh k) (omega arith) ∙ sym (put_same (head_at hs) g (model y) k e))
-        | inr e ↦ get_or-set_other (map model hs) g k (model y) (fresh k) e ∙ sym (put_other (head_at hs) g (model y) k e)
+      let l = length-map hs model_of in
+      ap (λ (ms : List Head). get_or ms k (fresh k)) (map-set model_of hs g y) ∙ elim (cases_eq k g) [
+        | inl e ↦ ap (λ (i : ℕ). get_or (set (map model_of hs) g (model_of y)) i (fresh k)) e ∙ (get_or-set_same (map model_of hs) g (model_of y) (fresh k) (omega arith) ∙ sym (put_same (head_at hs) g (model_of y) k e))
+        | inr e ↦ get_or-set_other (map model_of hs) g k (model_of y) (fresh k) e ∙ sym (put_other (head_at hs) g (model_of y) k e)
       ]
 
-  pub head_set : head_at (set hs g y) ≡ put_head (head_at hs) g (model y)
+  pub head_set : head_at (set hs g y) ≡ put_head (head_at hs) g (model_of y)
   head_set j k = head_set_at k j
 
-  size_set : (n k : ℕ) → get_or (map (λ (x : CHead). x.size.heads) (set hs g y)) k n ≡ get_or (set (map (λ (x : CHead). x.size.heads) hs) g y.size.heads) k n
-  size_set n k = ap (λ (ms : List ℕ). get_or ms k n) (map-set (λ (x : CHead). x.size.heads) hs g y)
+  size_set : (n k : ℕ) → get_or (map (λ (x : Member). x.head.size.heads) (set hs g y)) k n ≡ get_or (set (map (λ (x : Member). x.head.size.heads) hs) g y.head.size.heads) k n
+  size_set n k = ap (λ (ms : List ℕ). get_or ms k n) (map-set (λ (x : Member). x.head.size.heads) hs g y)
 
-  pub size_set_same : (n k : ℕ) → k ≡ g → get_or (map (λ (x : CHead). x.size.heads) (set hs g y)) k n ≡ y.size.heads
+  pub size_set_same : (n k : ℕ) → k ≡ g → get_or (map (λ (x : Member). x.head.size.heads) (set hs g y)) k n ≡ y.head.size.heads
   size_set_same n k e =
-      let f : CHead → ℕ = λ (x : CHead). x.size.heads in
+      let f : Member → ℕ = λ (x : Member). x.head.size.heads in
       let l = length-map hs f in
       size_set n k ∙ (ap (λ (i : ℕ). get_or (set (map f hs) g (f y)) i n) e ∙ get_or-set_same (map f hs) g (f y) n (omega arith))
 
-  pub size_set_other : (n k : ℕ) → (k ≡ g → ⊥) → get_or (map (λ (x : CHead). x.size.heads) (set hs g y)) k n ≡ get_or (map (λ (x : CHead). x.size.heads) hs) k n
-  size_set_other n k e = size_set n k ∙ get_or-set_other (map (λ (x : CHead). x.size.heads) hs) g k y.size.heads n e
+  pub size_set_other : (n k : ℕ) → (k ≡ g → ⊥) → get_or (map (λ (x : Member). x.head.size.heads) (set hs g y)) k n ≡ get_or (map (λ (x : Member). x.head.size.heads) hs) k n
+  size_set_other n k e = size_set n k ∙ get_or-set_other (map (λ (x : Member). x.head.size.heads) hs) g k y.head.size.heads n e
 
   -- a head that keeps its size and is in its ranges keeps what is known
-  pub facts_set : (n : ℕ) → Facts n hs → y.size.heads ≡ n → InRange n (model y) → Facts n (set hs g y)
+  pub facts_set : (n : ℕ) → Facts n hs → y.head.size.heads ≡ n → InRange n (model_of y) → Facts n (set hs g y)
   facts_set n f s r =
       let o : Facts n hs = f in
       record {
         places = length-set hs g y ∙ o.places;
         sized = (λ (k : ℕ) (b : k < n). elim (cases_eq k g) [ inl z ↦ size_set_same n k z ∙ s | inr z ↦ size_set_other n k z ∙ o.sized k b ]);
-        numbered = subst (λ (v : ℕ → Head). (k : ℕ) → k < n → ((v k).me < n) × (1 ≤ (v k).base)) (sym head_set) (put_both (λ (k : ℕ) (v : Head). k < n → (v.me < n) × (1 ≤ v.base)) (head_at hs) g (model y) (λ _. (r.one_of_n, r.from_one)) o.numbered);
-        kept = subst (λ (v : ℕ → Head). (k i j : ℕ) → kept_ok n i j ((v k).pending i j) ≡ true) (sym head_set) (put_both (λ (k : ℕ) (v : Head). (i j : ℕ) → kept_ok n i j (v.pending i j) ≡ true) (head_at hs) g (model y) (λ i j. all_kept n (model y) r i j ((model y).pending i j) refl) o.kept);
-        slots = subst (λ (v : ℕ → Head). (k t : ℕ) → slot_ok n t ((v k).queue t) ≡ true) (sym head_set) (put_both (λ (k : ℕ) (v : Head). (t : ℕ) → slot_ok n t (v.queue t) ≡ true) (head_at hs) g (model y) r.slots_ok o.slots);
+        numbered = subst (λ (v : ℕ → Head). (k : ℕ) → k < n → ((v k).me < n) × (1 ≤ (v k).base)) (sym head_set) (put_both (λ (k : ℕ) (v : Head). k < n → (v.me < n) × (1 ≤ v.base)) (head_at hs) g (model_of y) (λ _. (r.one_of_n, r.from_one)) o.numbered);
+        kept = subst (λ (v : ℕ → Head). (k i j : ℕ) → kept_ok n i j ((v k).pending i j) ≡ true) (sym head_set) (put_both (λ (k : ℕ) (v : Head). (i j : ℕ) → kept_ok n i j (v.pending i j) ≡ true) (head_at hs) g (model_of y) (λ i j. all_kept n (model_of y) r i j ((model_of y).pending i j) refl) o.kept);
+        slots = subst (λ (v : ℕ → Head). (k t : ℕ) → slot_ok n t ((v k).queue t) ≡ true) (sym head_set) (put_both (λ (k : ℕ) (v : Head). (t : ℕ) → slot_ok n t (v.queue t) ≡ true) (head_at hs) g (model_of y) r.slots_ok o.slots);
       }

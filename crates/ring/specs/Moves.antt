@@ -6,8 +6,8 @@ use Rattle.links.specs.Meaning.{Waits}
 use Rattle.head.specs.Answers.{Answer, refused}
 use Rattle.store.specs.Puts.{puts_of}
 use Rattle.calls.specs.declared.answers.Done.{Done as CDone}
-use Rattle.calls.specs.declared.machine.Head.{Head as CHead}
-use Rattle.calls.specs.Model.{model}
+use Rattle.calls.specs.declared.member.Member.{Member}
+use Rattle.calls.specs.Members.{model_of}
 use Rattle.calls.specs.Answers.{does}
 use Rattle.ring.specs.declared.types.Heads.{Heads}
 use Rattle.ring.specs.Ring.{Ring, Event, Call, Step, Missed, Trip, perform}
@@ -25,13 +25,13 @@ puts_in (Ok d) = puts_of d.puts
 puts_in (Err e) = []
 
 -- the call on the head g of a table did what the model says, by the word of its answer, and every other head is as it was
-pub record Acted {A : Type 0} (g : ℕ) (c : Call) (t : Option (List ℕ)) (word : A → Answer) (d : Result (CDone A) Refusal) (hs ks : List CHead) : Type 0 where
-  pub was : CHead
-  pub is : CHead
+pub record Acted {A : Type 0} (g : ℕ) (c : Call) (t : Option (List ℕ)) (word : A → Answer) (d : Result (CDone A) Refusal) (hs ks : List Member) : Type 0 where
+  pub was : Member
+  pub is : Member
   pub before : slice_index_or hs g was ≡ was
   pub after : ks ≡ slice_set hs g is
-  pub size : is.size ≡ was.size
-  pub done : does word d (model is) ≡ perform was.size.heads c t (model was)
+  pub size : is.head.size ≡ was.head.size
+  pub done : does word d (model_of is) ≡ perform was.head.size.heads c t (model_of was)
 
 -- the heads of a ring, and what waits on its link
 abbrev pub ring_of : Heads → Waits → Ring

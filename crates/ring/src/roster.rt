@@ -3,24 +3,24 @@ ghost use Rattle.std.specs.Prelude.{◌≡◌, ◌+◌, ◌<◌, replicate, if�
 ghost use Rattle.frames.specs.declared.refusal.Refusal.TheVariants.{TooManyHeads, TooFewHeads};
 ghost use Rattle.links.specs.Meaning.{Cleared};
 ghost use Rattle.head.specs.Head.{fresh};
-ghost use Rattle.calls.specs.Model.{model};
+ghost use Rattle.calls.specs.Members.{model_of};
 ghost use Rattle.ring.specs.Table.{head_at};
 ghost use Rattle.ring.specs.Starting.{Started};
 
 use crate::types::{Heads, NotStarted, Ring, Roster};
-use calls::machine::Head;
+use calls::member::Member;
 use frames::refusal::Refusal;
 use frames::types::RingSize;
 use links::link::Link;
 
 // The head of this number at the start, in a ring of this size; past its size, as a head of eight.
-fn fresh_head(size: RingSize, me: u8) -> Head
+fn fresh_head(size: RingSize, me: u8) -> Member
     requires { me < 8 }
-    ensures head { model result ≡ fresh me }
-    ensures size { me < size.heads → result.size.heads ≡ size.heads }
+    ensures head { model_of result ≡ fresh me }
+    ensures size { me < size.heads → result.head.size.heads ≡ size.heads }
 {
     let heads = if me < size.heads { size.heads } else { 8 };
-    match Head::new(heads, me) {
+    match Member::new(heads, me) {
         Ok(head) => head,
         Err(_) => unreachable(),
     }

@@ -6,12 +6,12 @@ ghost use Rattle.ring.specs.Ring.{submits, hears, turns, ticks, delivers};
 ghost use Rattle.ring.specs.Moves.{Acted};
 
 use calls::answers::{Delivered, Done, Heard, Submitted, Ticked, Turned};
-use calls::machine::Head;
+use calls::member::Member;
 use frames::refusal::Refusal;
 use frames::types::Packet;
 
 pub(crate) fn submit_at(
-    heads: &mut [Head],
+    heads: &mut [Member],
     head: usize,
     level: u8,
     body: &[u8],
@@ -19,11 +19,11 @@ pub(crate) fn submit_at(
     requires { head < length heads.old }
     ensures { Acted head (submits level body.now) None submitted result heads.old heads.new }
 {
-    heads[head].submit_done(level, body)
+    heads[head].submit(level, body)
 }
 
 pub(crate) fn hear_at(
-    heads: &mut [Head],
+    heads: &mut [Member],
     head: usize,
     packet: Option<Packet>,
 ) -> Result<Done<Heard>, Refusal>
@@ -32,25 +32,25 @@ pub(crate) fn hear_at(
 {
     match packet {
         None => Ok(heads[head].hear_nothing()),
-        Some(packet) => heads[head].hear_done(packet.as_slice()),
+        Some(packet) => heads[head].hear(packet.as_slice()),
     }
 }
 
-pub(crate) fn turn_at(heads: &mut [Head], head: usize) -> Result<Done<Turned>, Refusal>
+pub(crate) fn turn_at(heads: &mut [Member], head: usize) -> Result<Done<Turned>, Refusal>
     requires { head < length heads.old }
     ensures { Acted head turns None turned result heads.old heads.new }
 {
     heads[head].turn()
 }
 
-pub(crate) fn tick_at(heads: &mut [Head], head: usize) -> Done<Ticked>
+pub(crate) fn tick_at(heads: &mut [Member], head: usize) -> Done<Ticked>
     requires { head < length heads.old }
     ensures { Acted head ticks None ticked (Ok result) heads.old heads.new }
 {
     heads[head].tick()
 }
 
-pub(crate) fn deliver_at(heads: &mut [Head], head: usize) -> Done<Delivered>
+pub(crate) fn deliver_at(heads: &mut [Member], head: usize) -> Done<Delivered>
     requires { head < length heads.old }
     ensures { Acted head delivers None handed (Ok result) heads.old heads.new }
 {

@@ -2,7 +2,7 @@
 ghost use Rattle.std.specs.Prelude.{◌≡◌, ◌≤◌, length};
 ghost use Rattle.ring.specs.Table.{Sized, Numbered, KeptRanged, SlotsRanged};
 
-use calls::machine::Head;
+use calls::member::Member;
 use frames::refusal::Refusal;
 use frames::types::RingSize;
 
@@ -16,7 +16,7 @@ pub struct Roster {
 // A head for each number. A ring has the first ones, as many as its size says.
 #[derive(Drop)]
 pub struct Heads {
-    pub(crate) all: [Head; 8],
+    pub(crate) all: [Member; 8],
     pub(crate) size: RingSize,
     ghost places: { length all ≡ 8 },
     ghost sized: { Sized size.heads all },

@@ -6,4 +6,4 @@ use Rattle.ring.proofs.table.submit_at.Goals as goal
 
 pub returns : goal.returns
 unfolding perform
-returns c = acted c.args.head (submits c.args.level c.args.body.now) None submitted c.submit_done.result c.args.heads.now c.index-heads-head.result c.submit_done.new.self c.index-heads-head.is c.submit_done.ensures.size c.submit_done.ensures.after
+returns c = acted c.args.head (submits c.args.level c.args.body.now) None submitted c.submit.result c.args.heads.now c.index-heads-head.result c.submit.new.self c.index-heads-head.is c.submit.ensures.size c.submit.ensures.after

@@ -8,13 +8,13 @@ pub overflow_add-number-in-Some : goal.overflow_add-number-in-Some
 unfolding table_of
 overflow_add-number-in-Some c =
     let x = c.args.self.now in
-    let k = kept_small x.inbox c.args.source c.args.place _ _ _ c.requires.head c.requires.near x.numbered c.in-Some.is in omega arith
+    let k = kept_small x.inbox c.args.source c.args.place _ _ _ c.requires.head c.requires.near c.requires.sendable.small c.in-Some.is in omega arith
 
 pub invariant_of-name : goal.invariant_of-name
 unfolding table_of
 invariant_of-name c =
     let x = c.args.self.now in
-    let k = kept_small x.inbox c.args.source c.args.place _ _ _ c.requires.head c.requires.near x.numbered c.in-Some.is in
+    let k = kept_small x.inbox c.args.source c.args.place _ _ _ c.requires.head c.requires.near c.requires.sendable.small c.in-Some.is in
     record {
       head = c.requires.head;
       counted = omega arith;

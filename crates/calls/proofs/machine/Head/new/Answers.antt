@@ -1,8 +1,7 @@
 use Rattle.std.proofs.Common.{ℕ, ◌<◌, ◌≤◌, sym, refl, ap, ◌∙◌, arith}
 use Rattle.head.specs.Slots.{known, named, unknown}
 use Rattle.head.specs.Queue.{Queue, highest, raise}
-use Rattle.head.specs.Head.{Pending, fresh}
-use Rattle.head.specs.Hear.{found}
+use Rattle.head.specs.Head.{fresh}
 use Rattle.head.proofs.Names.{highest_false}
 use Rattle.calls.proofs.Starting.{head_made}
 use Rattle.calls.proofs.machine.Head.new.Goals as goal
@@ -17,8 +16,6 @@ invariant_of-result c =
       passed = (λ (u : ℕ) (x : b ≤ u) (y : u < 1). absurd (omega (arith, e.base)));
       ends = (λ (u : ℕ) _. ap (λ (q : Queue). known (q u)) e.slots);
       own = ((λ (u : ℕ). ap (λ (q : Queue). raise c.args.me (named (q u)) 0) e.slots), (let g = ap (λ (t : ℕ → ℕ). t c.args.me) e.gone in omega arith));
-      unmade = (λ (k : ℕ) _. ap (λ (p : Pending). found (p c.args.me k)) i.pending);
-      numbered = (λ (s k : ℕ) _. ap (λ (p : Pending). found (p s k)) i.pending);
       lows = (λ (s : ℕ). ap (λ (t : ℕ → ℕ). t s) i.low ∙ sym ((λ j. highest (e.slots j) s 96 b (e.gone j s)) ∙ highest_false (λ _. unknown) s 95 b 0 refl));
     }
 

@@ -1,9 +1,7 @@
 use Rattle.std.proofs.Common.{ℕ, max, cond, leb, List, None, refl, ap, ◌∙◌, arith}
 use Rattle.std.proofs.lemmas.Bool.{cond-true}
-use Rattle.frames.specs.Types.{names_of}
-use Rattle.head.specs.Head.{Pending, numbered_in}
-use Rattle.store.specs.Parts.{table_of, inbox_of, Most}
-use Rattle.calls.proofs.Pendings.{most_less}
+use Rattle.head.specs.Head.{Pending}
+use Rattle.store.specs.Parts.{table_of, inbox_of}
 use Rattle.calls.proofs.Placing.{code_placed, code_ends, code_own, code_passed, code_low}
 use Rattle.calls.proofs.machine.Head.place.Goals as goal
 
@@ -17,15 +15,12 @@ invariant_of-self c =
     let i = c.args.issuer in
     let ns = c.args.names in
     let es = e.slots ∙ cond-true c.lay.result _ _ (e.answer ∙ c.requires.room) in
-    let el = c.lows-low.ensures in
-    let kept : (g b : ℕ) → Most g b (inbox_of x.inbox) → Most g b (inbox_of c.raise_all.new.self) = λ g b few. most_less g b (inbox_of c.clear_all.new.self) (inbox_of c.raise_all.new.self) (λ s k. leb k (table_of l s)) (most_less g b (inbox_of x.inbox) (inbox_of c.clear_all.new.self) (λ s k. numbered_in s k (names_of ns)) few c.clear_all.ensures.pending) c.raise_all.ensures.pending in record {
+    let el = c.lows-low.ensures in record {
       member = x.member;
       range = (omega (arith, e.base, x.range.0), x.range.1);
       passed = code_passed x q l t i ns e.base e.gone es el c.requires.free x.due x.passed;
       ends = code_ends x q l t i ns e.base e.gone es el c.requires.stamps x.ends;
       own = code_own x q l t i ns e.base e.gone es el x.me x.made c.requires.own x.own;
-      unmade = kept x.me x.made x.unmade;
-      numbered = (λ s. kept s 500000 (x.numbered s));
       lows = (λ s. c.raise_all.ensures.low s ∙ (ap (λ (xs : List ℕ). max (table_of xs s) (table_of l s)) c.clear_all.ensures.low ∙ code_low x q l t i ns e.base e.gone es el c.requires.free s));
     }
 

@@ -18,7 +18,5 @@ invariant_of-self c =
       passed = e.passed x.passed;
       ends = e.ends x.ends;
       own = e.own x.me x.made x.own;
-      unmade = x.unmade;
-      numbered = x.numbered;
       lows = (λ s. x.lows s ∙ sym (e.low x.passed s));
     }

@@ -33,8 +33,6 @@ invariant_of-self c =
       passed = filled_passed q p b t e.base e.gone e.slots x.due x.passed;
       ends = filled_ends q p b t e.base e.gone e.slots x.ends;
       own = filled_own q p b t e.base e.gone e.slots x.me x.made x.own;
-      unmade = x.unmade;
-      numbered = x.numbered;
       lows = (λ s. x.lows s ∙ sym (filled_low q p b t e.base e.gone e.slots s));
     }
 

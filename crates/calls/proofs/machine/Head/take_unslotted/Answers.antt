@@ -1,13 +1,11 @@
-use Rattle.std.proofs.Common.{◌≡◌, ℕ, ◌≤◌, true, false, ◌&&◌, eqb, List, [], sym, refl, ap, ◌∙◌, arith}
+use Rattle.std.proofs.Common.{◌≡◌, true, false, ◌&&◌, eqb, [], sym, refl, ap, ◌∙◌, arith}
 use Rattle.std.proofs.lemmas.Bool.{eq-eqb, ne_eqb, and_from, and_left, and_right, cond-true}
-use Rattle.frames.specs.Types.{body_of, message_of, name_of}
+use Rattle.frames.specs.Types.{body_of, message_of}
 use Rattle.head.specs.Slots.{same_bytes}
 use Rattle.head.specs.Head.{Pending, keep, with_pending}
 use Rattle.head.specs.Answers.{done, kept}
-use Rattle.store.specs.Parts.{inbox_of, table_of, Most}
 use Rattle.calls.specs.Model.{model}
 use Rattle.calls.proofs.Lows.{low_is, near}
-use Rattle.calls.proofs.Pendings.{most_put, own_near}
 use Rattle.calls.proofs.Hearing.{new_old, new_far, new_near, pending_same}
 use Rattle.calls.proofs.machine.Head.take_unslotted.Goals as goal
 use Rattle.calls.proofs.machine.Head.take_unslotted.Goals.{else-name-k-via-then-name-k+else-is_body, else-name-k-via-else-name-k}
@@ -53,20 +51,3 @@ returns-in-None c =
     let e = low_is x c.args.name.source in
     let p = c.keep.ensures.pending ∙ cond-true c.keep.result _ _ (c.keep.ensures.answer ∙ near x.inbox.low c.args.name.source c.args.name.number (omega arith) (omega arith)) in
     record { size = refl; after = ap (λ (v : Pending). done x.size.heads kept (with_pending (model x) v) []) p ∙ sym (new_near x.size.heads (model x) m _ (omega arith) (omega arith) (sym c.in-None.ensures)) }
-
-pub invariant_of-self : goal.invariant_of-self
-invariant_of-self c =
-    let x = c.args.self.now in
-    let e = low_is x c.args.name.source in
-    let w = c.args.name in
-    let p = c.keep.ensures.pending ∙ cond-true c.keep.result _ _ (c.keep.ensures.answer ∙ near x.inbox.low w.source w.number (omega arith) (omega arith)) in
-    let kept : (g b : ℕ) → Most g b (inbox_of x.inbox) → (g ≡ w.source → w.number ≤ b) → Most g b (inbox_of c.keep.new.self) = λ g b few h. most_put g b w.source w.number _ (inbox_of x.inbox) (inbox_of c.keep.new.self) few h p in record {
-      member = x.member;
-      range = x.range;
-      passed = x.passed;
-      ends = x.ends;
-      own = x.own;
-      unmade = kept x.me x.made x.unmade (own_near (model x) (name_of w) c.requires);
-      numbered = (λ s. kept s 500000 (x.numbered s) (λ _. w.small));
-      lows = (λ s. ap (λ (l : List ℕ). table_of l s) c.keep.ensures.low ∙ x.lows s);
-    }

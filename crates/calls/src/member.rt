@@ -1,0 +1,14 @@
+// A head as a member of a ring: it is in its ranges, and what is pending of it can be sent.
+ghost use Rattle.head.specs.Ranges.{InRange};
+ghost use Rattle.calls.specs.Model.{model};
+ghost use Rattle.calls.specs.Sendable.{NoneUnmade};
+
+use crate::machine::Head;
+
+// Calls alone lead here: no own number above made is pending, and all that it keeps is in its ranges.
+#[derive(Clone, Copy)]
+pub struct Member {
+    pub head: Head,
+    ghost ranged: { InRange head.size.heads (model head) },
+    ghost unmade: { NoneUnmade (model head) },
+}

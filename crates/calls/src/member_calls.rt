@@ -1,0 +1,74 @@
+// The five calls of a member of a ring.
+ghost use Rattle.std.specs.Prelude.{◌≡◌, Some, None};
+ghost use Rattle.frames.specs.Types.{meant};
+ghost use Rattle.head.specs.Submit.{submit as m_submit};
+ghost use Rattle.head.specs.Hear.{hear as m_hear};
+ghost use Rattle.head.specs.Turn.{turn as m_turn};
+ghost use Rattle.head.specs.Tick.{tick as m_tick};
+ghost use Rattle.head.specs.Deliver.{deliver as m_deliver};
+ghost use Rattle.calls.specs.Answers.{did, does, made, heard, turned, ticked, handed};
+ghost use Rattle.calls.specs.Model.{head_for};
+ghost use Rattle.calls.specs.Members.{model_of, in_ring_of};
+
+use crate::answers::{Delivered, Done, Heard, Submitted, Ticked, Turned};
+use crate::machine::Head;
+use crate::member::Member;
+use frames::refusal::Refusal;
+
+impl Member {
+    // The head of this number in a ring of this many heads, at its start.
+    pub fn new(heads: u8, me: u8) -> Result<Member, Refusal>
+        ensures { meant in_ring_of result ≡ head_for heads me }
+    {
+        let head = Head::new(heads, me)?;
+        Ok(Member { head })
+    }
+
+    // A new message of this head.
+    pub fn submit(&mut self, level: u8, bytes: &[u8]) -> Result<Done<Submitted>, Refusal>
+        ensures size { self.new.head.size ≡ self.old.head.size }
+        ensures after { does made result (model_of self.new) ≡ m_submit self.old.head.size.heads level bytes.now (model_of self.old) }
+    {
+        self.head.submit_done(level, bytes)
+    }
+
+    // The bytes of a packet.
+    pub fn hear(&mut self, bytes: &[u8]) -> Result<Done<Heard>, Refusal>
+        ensures size { self.new.head.size ≡ self.old.head.size }
+        ensures after { does heard result (model_of self.new) ≡ m_hear self.old.head.size.heads (Some bytes.now) (model_of self.old) }
+    {
+        self.head.hear_done(bytes)
+    }
+
+    // No packet came.
+    pub fn hear_nothing(&mut self) -> Done<Heard>
+        ensures size { self.new.head.size ≡ self.old.head.size }
+        ensures after { did heard result (model_of self.new) ≡ m_hear self.old.head.size.heads None (model_of self.old) }
+    {
+        self.head.hear_nothing()
+    }
+
+    // Orders up to four pending messages, if this head holds the token.
+    pub fn turn(&mut self) -> Result<Done<Turned>, Refusal>
+        ensures size { self.new.head.size ≡ self.old.head.size }
+        ensures after { does turned result (model_of self.new) ≡ m_turn self.old.head.size.heads (model_of self.old) }
+    {
+        self.head.turn()
+    }
+
+    // One tick: idle until the wait is over.
+    pub fn tick(&mut self) -> Done<Ticked>
+        ensures size { self.new.head.size ≡ self.old.head.size }
+        ensures after { did ticked result (model_of self.new) ≡ m_tick self.old.head.size.heads (model_of self.old) }
+    {
+        self.head.tick()
+    }
+
+    // The next message of the common list.
+    pub fn deliver(&mut self) -> Done<Delivered>
+        ensures size { self.new.head.size ≡ self.old.head.size }
+        ensures after { did handed result (model_of self.new) ≡ m_deliver self.old.head.size.heads (model_of self.old) }
+    {
+        self.head.deliver()
+    }
+}
