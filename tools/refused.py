@@ -3,7 +3,8 @@
 
 usage: python3 tools/refused.py     at the top of the repository; prints nothing where all are refused
 
-An edit has the lines file:, old: and new: of a must-fail edit. It is refused before any proof, by the types alone, so the gate's must-fail edits cannot hold it.
+An edit has the lines file:, old: and new: of a must-fail edit, and says:. NAME is a library. It is refused before any proof, by the types alone, so the gate's
+must-fail edits cannot hold it.
 """
 
 import glob
@@ -48,6 +49,9 @@ def trouble(path):
 
 def main():
     found = {path: trouble(path) for path in sorted(glob.glob("crates/*/refused/*.edit"))}
+    if not found:
+        print("no crates/NAME/refused/*.edit here: run it at the top of the repository")
+        return 1
     for path, why in found.items():
         if why:
             print(f"{path}: {why}")

@@ -13,6 +13,10 @@ use Rattle.calls.specs.declared.answers.Message.{Message}
 use Rattle.calls.specs.declared.answers.Submitted.{Submitted}
 use Rattle.calls.specs.declared.answers.Submitted.TheVariants.{Made}
 use Rattle.calls.specs.declared.answers.Heard.{Heard}
+use Rattle.calls.specs.declared.answers.Submission.{Submission}
+use Rattle.calls.specs.declared.answers.Submission.TheVariants as SubmissionCase
+use Rattle.calls.specs.declared.answers.Hearing.{Hearing}
+use Rattle.calls.specs.declared.answers.Hearing.TheVariants as HearingCase
 use Rattle.calls.specs.declared.answers.Turned.{Turned}
 use Rattle.calls.specs.declared.answers.Turned.TheVariants as TurnedCase
 use Rattle.calls.specs.declared.answers.Ticked.{Ticked}
@@ -77,7 +81,21 @@ abbrev pub heard_before : ℕ → Result Heard Refusal → Head → Done
 heard_before n (Ok a) h = done n (heard a) h (heard_puts a)
 heard_before n (Err e) h = refuse e h
 
--- turn, tick and deliver: what they answer
+-- the calls whose frames to put stand beside the answer: what they answer
+
+abbrev pub submission : Submission → Answer
+submission (SubmissionCase.Made k) = made_it k
+
+abbrev pub hearing : Hearing → Answer
+hearing HearingCase.Quiet = quiet
+hearing HearingCase.Kept = kept
+hearing HearingCase.Filled = filled
+hearing HearingCase.Repeat = repeat
+hearing HearingCase.Far = far
+hearing HearingCase.Placed = placed
+hearing HearingCase.Crowded = crowded
+hearing HearingCase.Resent = resent
+hearing HearingCase.Nothing = nothing
 
 abbrev pub turned : Turned → Answer
 turned TurnedCase.NotYours = not_yours

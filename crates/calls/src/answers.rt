@@ -36,6 +36,26 @@ pub enum Heard {
     Nothing,
 }
 
+// What a submit answers, where the frame to put stands beside it: the number of the new message.
+#[derive(Clone, Copy)]
+pub enum Submission {
+    Made { number: u32 },
+}
+
+// What hear answers, where the frame to put stands beside it.
+#[derive(Clone, Copy)]
+pub enum Hearing {
+    Quiet,
+    Kept,
+    Filled,
+    Repeat,
+    Far,
+    Placed,
+    Crowded,
+    Resent,
+    Nothing,
+}
+
 // Ordered: with the stamp of the new ACK, and how many messages it names.
 #[derive(Clone, Copy)]
 pub enum Turned {

@@ -2,9 +2,9 @@
 ghost use Rattle.std.specs.Prelude.{◌≡◌, [], None};
 ghost use Rattle.store.specs.Look.{put_of};
 ghost use Rattle.store.specs.Puts.{puts_of};
-ghost use Rattle.calls.specs.Answers.{heard_puts};
+ghost use Rattle.calls.specs.Answers.{heard, heard_puts, hearing};
 
-use crate::answers::{Done, Heard};
+use crate::answers::{Done, Heard, Hearing};
 use frames::types::Frame;
 use store::types::Frames;
 
@@ -25,14 +25,21 @@ impl<A> Done<A> {
 
 impl Heard {
     // With the frame to put, if a NACK was answered.
-    pub fn done(self) -> Done<Heard>
-        ensures answer { result.answer ≡ self }
+    pub fn done(self) -> Done<Hearing>
+        ensures answer { hearing result.answer ≡ heard self }
         ensures puts { puts_of result.puts ≡ heard_puts self }
         ensures issued { result.issued ≡ None }
     {
         match self {
-            Heard::Resent { frame } => Done::new(self, Some(frame)),
-            _ => Done::new(self, None),
+            Heard::Quiet => Done::new(Hearing::Quiet, None),
+            Heard::Kept => Done::new(Hearing::Kept, None),
+            Heard::Filled => Done::new(Hearing::Filled, None),
+            Heard::Repeat => Done::new(Hearing::Repeat, None),
+            Heard::Far => Done::new(Hearing::Far, None),
+            Heard::Placed => Done::new(Hearing::Placed, None),
+            Heard::Crowded => Done::new(Hearing::Crowded, None),
+            Heard::Resent { frame } => Done::new(Hearing::Resent, Some(frame)),
+            Heard::Nothing => Done::new(Hearing::Nothing, None),
         }
     }
 }

@@ -6,9 +6,9 @@ ghost use Rattle.head.specs.Queue.{names_it};
 ghost use Rattle.head.specs.Hear.{hear_slot, hear_unslotted, hear_data as m_hear_data, hear_ack as m_hear_ack, hear_nack as m_hear_nack, hear as m_hear, asks};
 ghost use Rattle.store.specs.Parts.{ack_of};
 ghost use Rattle.calls.specs.Model.{model};
-ghost use Rattle.calls.specs.Answers.{did, does, heard, heard_before, heard_after};
+ghost use Rattle.calls.specs.Answers.{did, does, heard_before, heard_after, hearing};
 
-use crate::answers::{Done, Heard};
+use crate::answers::{Done, Heard, Hearing};
 use crate::machine::Head;
 use frames::read::read;
 use frames::refusal::Refusal;
@@ -190,20 +190,20 @@ impl Head {
     }
 
     // The same, with the frame to put.
-    pub fn hear_done(&mut self, bytes: &[u8]) -> Result<Done<Heard>, Refusal>
+    pub fn hear_done(&mut self, bytes: &[u8]) -> Result<Done<Hearing>, Refusal>
         ensures size { self.new.size ≡ self.old.size }
-        ensures after { does heard result (model self.new) ≡ m_hear self.old.size.heads (Some bytes.now) (model self.old) }
+        ensures after { does hearing result (model self.new) ≡ m_hear self.old.size.heads (Some bytes.now) (model self.old) }
     {
         let answer = self.hear(bytes)?;
         Ok(answer.done())
     }
 
     // No packet came.
-    pub fn hear_nothing(&mut self) -> Done<Heard>
+    pub fn hear_nothing(&mut self) -> Done<Hearing>
         ensures size { self.new.size ≡ self.old.size }
-        ensures after { did heard result (model self.new) ≡ m_hear self.old.size.heads None (model self.old) }
+        ensures after { did hearing result (model self.new) ≡ m_hear self.old.size.heads None (model self.old) }
     {
         self.settle();
-        Done::new(Heard::Quiet, None)
+        Done::new(Hearing::Quiet, None)
     }
 }

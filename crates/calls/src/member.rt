@@ -5,7 +5,7 @@ ghost use Rattle.calls.specs.Sendable.{NoneUnmade};
 
 use crate::machine::Head;
 
-// Calls alone lead here: no own number above made is pending, and all that it keeps is in its ranges.
+// Its calls keep both facts: all that it keeps is in its ranges, and no own number above made is pending.
 #[derive(Clone, Copy)]
 pub struct Member {
     pub head: Head,

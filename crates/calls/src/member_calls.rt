@@ -6,11 +6,11 @@ ghost use Rattle.head.specs.Hear.{hear as m_hear};
 ghost use Rattle.head.specs.Turn.{turn as m_turn};
 ghost use Rattle.head.specs.Tick.{tick as m_tick};
 ghost use Rattle.head.specs.Deliver.{deliver as m_deliver};
-ghost use Rattle.calls.specs.Answers.{did, does, made, heard, turned, ticked, handed};
+ghost use Rattle.calls.specs.Answers.{did, does, submission, hearing, turned, ticked, handed};
 ghost use Rattle.calls.specs.Model.{head_for};
 ghost use Rattle.calls.specs.Members.{model_of, in_ring_of};
 
-use crate::answers::{Delivered, Done, Heard, Submitted, Ticked, Turned};
+use crate::answers::{Delivered, Done, Hearing, Submission, Ticked, Turned};
 use crate::machine::Head;
 use crate::member::Member;
 use frames::refusal::Refusal;
@@ -25,25 +25,25 @@ impl Member {
     }
 
     // A new message of this head.
-    pub fn submit(&mut self, level: u8, bytes: &[u8]) -> Result<Done<Submitted>, Refusal>
+    pub fn submit(&mut self, level: u8, bytes: &[u8]) -> Result<Done<Submission>, Refusal>
         ensures size { self.new.head.size ≡ self.old.head.size }
-        ensures after { does made result (model_of self.new) ≡ m_submit self.old.head.size.heads level bytes.now (model_of self.old) }
+        ensures after { does submission result (model_of self.new) ≡ m_submit self.old.head.size.heads level bytes.now (model_of self.old) }
     {
         self.head.submit_done(level, bytes)
     }
 
     // The bytes of a packet.
-    pub fn hear(&mut self, bytes: &[u8]) -> Result<Done<Heard>, Refusal>
+    pub fn hear(&mut self, bytes: &[u8]) -> Result<Done<Hearing>, Refusal>
         ensures size { self.new.head.size ≡ self.old.head.size }
-        ensures after { does heard result (model_of self.new) ≡ m_hear self.old.head.size.heads (Some bytes.now) (model_of self.old) }
+        ensures after { does hearing result (model_of self.new) ≡ m_hear self.old.head.size.heads (Some bytes.now) (model_of self.old) }
     {
         self.head.hear_done(bytes)
     }
 
     // No packet came.
-    pub fn hear_nothing(&mut self) -> Done<Heard>
+    pub fn hear_nothing(&mut self) -> Done<Hearing>
         ensures size { self.new.head.size ≡ self.old.head.size }
-        ensures after { did heard result (model_of self.new) ≡ m_hear self.old.head.size.heads None (model_of self.old) }
+        ensures after { did hearing result (model_of self.new) ≡ m_hear self.old.head.size.heads None (model_of self.old) }
     {
         self.head.hear_nothing()
     }

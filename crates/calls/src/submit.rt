@@ -2,9 +2,9 @@
 ghost use Rattle.std.specs.Prelude.{◌≡◌, ℕ, suc, ◌+◌, ◌-◌, ◌<◌, ◌≤◌};
 ghost use Rattle.head.specs.Submit.{submit as m_submit};
 ghost use Rattle.calls.specs.Model.{model};
-ghost use Rattle.calls.specs.Answers.{does, made, made_before, made_after, makes_before};
+ghost use Rattle.calls.specs.Answers.{does, made_before, made_after, makes_before, submission};
 
-use crate::answers::{Done, Message, Submitted};
+use crate::answers::{Done, Message, Submission, Submitted};
 use crate::machine::Head;
 use frames::refusal::Refusal;
 use frames::types::{Body, Frame, Level, Name};
@@ -53,13 +53,15 @@ impl Head {
     }
 
     // A new message of this head, with its Data frame to put.
-    pub fn submit_done(&mut self, level: u8, bytes: &[u8]) -> Result<Done<Submitted>, Refusal>
+    pub fn submit_done(&mut self, level: u8, bytes: &[u8]) -> Result<Done<Submission>, Refusal>
         ensures size { self.new.size ≡ self.old.size }
-        ensures after { does made result (model self.new) ≡ m_submit self.old.size.heads level bytes.now (model self.old) }
+        ensures after { does submission result (model self.new) ≡ m_submit self.old.size.heads level bytes.now (model self.old) }
     {
         let Message { name, body } = self.compose(level, bytes)?;
         self.settle();
-        let frame = Frame::Data { name, body };
-        Ok(Done::new(Submitted::Made { name, body }, Some(frame)))
+        let answer = Submission::Made {
+            number: name.number,
+        };
+        Ok(Done::new(answer, Some(Frame::Data { name, body })))
     }
 }

@@ -16,7 +16,7 @@ use Rattle.head.specs.Wired.{Wired, wired, WireMove, submits, hears, turns, tick
 abbrev pub submit_at : ℕ → WireMove
 submit_at l = submits 0 l (1 ∷ [])
 
--- n heads, after head 0 has wired_submitted it
+-- n heads, after head 0 has submitted it
 abbrev pub wired_submitted : ℕ → ℕ → Wired
 wired_submitted n l = after n (submit_at l ∷ []) (wired n)
 

@@ -2,7 +2,7 @@
 use Rattle.std.specs.Prelude.{◌≡◌, List, [], ◌∷◌}
 use Rattle.links.specs.Meaning.{Waits}
 use Rattle.head.specs.Answers.{Answer}
-use Rattle.calls.specs.Answers.{made as submitted, heard, turned, ticked, handed}
+use Rattle.calls.specs.Answers.{submission as submitted, hearing as heard, turned, ticked, handed}
 use Rattle.ring.specs.declared.request.Call.{Call as CCall}
 use Rattle.ring.specs.declared.request.Call.TheVariants.{Submit, Hear, Turn, Tick, Deliver}
 use Rattle.ring.specs.declared.request.Request.{Request}

@@ -1,5 +1,5 @@
 // Calls as values: what is asked of a ring, and what came of it.
-use calls::answers::{Delivered, Heard, Submitted, Ticked, Turned};
+use calls::answers::{Delivered, Hearing, Submission, Ticked, Turned};
 use frames::refusal::Refusal;
 
 // A call, with its inputs.
@@ -22,8 +22,8 @@ pub struct Request<'a> {
 // What a call answered.
 #[derive(Clone, Copy)]
 pub enum Answer {
-    Submitted(Submitted),
-    Heard(Heard),
+    Submitted(Submission),
+    Heard(Hearing),
     Turned(Turned),
     Ticked(Ticked),
     Delivered(Delivered),

@@ -1,14 +1,14 @@
 // The calls on a running ring.
 ghost use Rattle.std.specs.Prelude.{◌<◌, MatchResult};
 ghost use Rattle.head.specs.Answers.{refused};
-ghost use Rattle.calls.specs.Answers.{made as submitted, heard, turned, ticked, handed};
+ghost use Rattle.calls.specs.Answers.{submission as submitted, hearing as heard, turned, ticked, handed};
 ghost use Rattle.ring.specs.Ring.{Call, submits, hears, turns, ticks, delivers};
 ghost use Rattle.ring.specs.Moves.{Moved, answered};
 
 use crate::put::send;
 use crate::table::{deliver_at, hear_at, submit_at, tick_at, turn_at};
 use crate::types::Ring;
-use calls::answers::{Delivered, Heard, Submitted, Ticked, Turned};
+use calls::answers::{Delivered, Hearing, Submission, Ticked, Turned};
 use frames::refusal::Refusal;
 use links::link::Link;
 
@@ -24,7 +24,7 @@ impl<L: Link> Ring<L> {
         }
     }
 
-    fn submit_to(&mut self, head: u8, level: u8, body: &[u8]) -> Result<Submitted, Refusal>
+    fn submit_to(&mut self, head: u8, level: u8, body: &[u8]) -> Result<Submission, Refusal>
         requires { head < self.old.heads.size.heads }
         ensures { Moved self.old.heads (L.waits self.old.link) head (submits level body.now) (answered submitted result) self.new.heads (L.waits self.new.link) }
     {
@@ -33,14 +33,14 @@ impl<L: Link> Ring<L> {
     }
 
     // A new message of a head.
-    pub fn submit(&mut self, head: u8, level: u8, body: &[u8]) -> Result<Submitted, Refusal>
+    pub fn submit(&mut self, head: u8, level: u8, body: &[u8]) -> Result<Submission, Refusal>
         ensures { Moved self.old.heads (L.waits self.old.link) head (submits level body.now) (answered submitted result) self.new.heads (L.waits self.new.link) }
     {
         self.check(head)?;
         self.submit_to(head, level, body)
     }
 
-    fn hear_by(&mut self, head: u8) -> Result<Heard, Refusal>
+    fn hear_by(&mut self, head: u8) -> Result<Hearing, Refusal>
         requires { head < self.old.heads.size.heads }
         ensures { Moved self.old.heads (L.waits self.old.link) head hears (answered heard result) self.new.heads (L.waits self.new.link) }
     {
@@ -50,7 +50,7 @@ impl<L: Link> Ring<L> {
     }
 
     // A head hears a packet that waits for it, or nothing.
-    pub fn hear(&mut self, head: u8) -> Result<Heard, Refusal>
+    pub fn hear(&mut self, head: u8) -> Result<Hearing, Refusal>
         ensures { Moved self.old.heads (L.waits self.old.link) head hears (answered heard result) self.new.heads (L.waits self.new.link) }
     {
         self.check(head)?;

@@ -1,11 +1,11 @@
 // The heads of a ring: each call goes to one of them.
 ghost use Rattle.std.specs.Prelude.{◌≡◌, ◌<◌, length, None, Ok};
 ghost use Rattle.links.specs.Types.{taken_of};
-ghost use Rattle.calls.specs.Answers.{made as submitted, heard, turned, ticked, handed};
+ghost use Rattle.calls.specs.Answers.{submission as submitted, hearing as heard, turned, ticked, handed};
 ghost use Rattle.ring.specs.Ring.{submits, hears, turns, ticks, delivers};
 ghost use Rattle.ring.specs.Moves.{Acted};
 
-use calls::answers::{Delivered, Done, Heard, Submitted, Ticked, Turned};
+use calls::answers::{Delivered, Done, Hearing, Submission, Ticked, Turned};
 use calls::member::Member;
 use frames::refusal::Refusal;
 use frames::types::Packet;
@@ -15,7 +15,7 @@ pub(crate) fn submit_at(
     head: usize,
     level: u8,
     body: &[u8],
-) -> Result<Done<Submitted>, Refusal>
+) -> Result<Done<Submission>, Refusal>
     requires { head < length heads.old }
     ensures { Acted head (submits level body.now) None submitted result heads.old heads.new }
 {
@@ -26,7 +26,7 @@ pub(crate) fn hear_at(
     heads: &mut [Member],
     head: usize,
     packet: Option<Packet>,
-) -> Result<Done<Heard>, Refusal>
+) -> Result<Done<Hearing>, Refusal>
     requires { head < length heads.old }
     ensures { Acted head hears (taken_of packet) heard result heads.old heads.new }
 {

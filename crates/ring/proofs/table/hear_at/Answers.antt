@@ -1,6 +1,6 @@
 use Rattle.std.proofs.Common.{get_or, Some, Ok, sym, ap, ◌∙◌}
 use Rattle.links.specs.Types.{taken_of}
-use Rattle.calls.specs.Answers.{heard}
+use Rattle.calls.specs.Answers.{hearing as heard}
 use Rattle.calls.specs.Members.{model_of}
 use Rattle.ring.specs.Ring.{hears, perform}
 use Rattle.ring.proofs.Moving.{acted}

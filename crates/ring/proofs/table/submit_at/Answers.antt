@@ -1,5 +1,5 @@
 use Rattle.std.proofs.Common.{None}
-use Rattle.calls.specs.Answers.{made as submitted}
+use Rattle.calls.specs.Answers.{submission as submitted}
 use Rattle.ring.specs.Ring.{submits, perform}
 use Rattle.ring.proofs.Moving.{acted}
 use Rattle.ring.proofs.table.submit_at.Goals as goal

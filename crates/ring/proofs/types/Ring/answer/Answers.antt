@@ -1,6 +1,6 @@
 use Rattle.std.proofs.Common.{sym, ap}
 use Rattle.std.proofs.lemmas.Result.{err_from_is_err_and}
-use Rattle.calls.specs.Answers.{made as submitted, heard, turned, ticked, handed}
+use Rattle.calls.specs.Answers.{submission as submitted, hearing as heard, turned, ticked, handed}
 use Rattle.ring.specs.Moves.{answered}
 use Rattle.ring.specs.Runs.{call_of}
 use Rattle.ring.proofs.Sequences.{moved_as, broke}
