@@ -3,7 +3,7 @@ ghost use Rattle.std.specs.Prelude.{◌≡◌, ◌≤◌, length, ⊤};
 
 use std::alloc::AllocError;
 
-// Items: the first count of N places.
+// Items: the first count of N places. The array stays, as the device has one; the library's ArrayVec would be no Copy.
 pub struct Table<T, const N: usize> {
     pub places: [T; N],
     pub count: usize,
@@ -60,7 +60,8 @@ impl<T: Copy, const N: usize> Table<T, N> {
         &self.places[..self.count]
     }
 
-    // One item more at the end; false, and nothing changes, where every place is used.
+    // One item more at the end; false, and nothing changes, where every place is used. A bool, as a set's insert has: no value
+    // stands beside it.
     pub fn push(&mut self, item: T) -> bool
         ensures answer { result ≡ nat_lt self.old.count N }
         ensures after { items self.new ≡ (if result then items self.old ++ item ∷ [] else items self.old) }

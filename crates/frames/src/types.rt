@@ -11,7 +11,7 @@ pub struct RingSize {
     ghost most: { heads ≤ 8 },
 }
 
-// How many other heads a message waits for: none, so many, the majority, or all.
+// How many other heads a message waits for: none, so many, the majority, or all. Each has its number, as it is sent.
 #[derive(Clone, Copy, PartialEq, Eq, Debug)]
 pub enum Level {
     Total = 0,
@@ -65,7 +65,7 @@ pub struct Ack {
     pub names: Names,
 }
 
-// Whom a NACK asks.
+// Whom a NACK asks. Shaped like an Option, but None would not say that it asks everyone.
 #[derive(Clone, Copy, PartialEq, Eq, Debug)]
 pub enum To {
     Head(u8),
