@@ -2,7 +2,7 @@
 #![tactic(auto)]
 
 pub mod kind;
-mod measure;
+pub mod measure;
 pub mod values;
 
 // Worked bodies.
