@@ -9,9 +9,9 @@ use Rattle.account.specs.declared.tally.Sort.{Sort}
 use Rattle.account.specs.declared.tally.Sort.TheVariants.{DataFrame, AckFrame, NackFrame, NoFrame, OutOfRange, NoHex}
 
 abbrev pub frame_sort : Frame → Sort
-frame_sort (Data x b) = DataFrame
-frame_sort (Ack t i ns) = AckFrame
-frame_sort (Nack f o t) = NackFrame
+frame_sort (Data m) = DataFrame
+frame_sort (Ack a) = AckFrame
+frame_sort (Nack k) = NackFrame
 
 -- reading refuses by 11 and 12 alone
 abbrev pub sort_of : Result Frame LineError → Sort

@@ -3,7 +3,7 @@ use crate::line::LineError;
 use crate::tally::{Sort, Tally};
 use bodies::kind::decode;
 use bodies::values::{Door, Reading, SetPoint};
-use frames::types::{Body, Frame, Names, RingSize};
+use frames::types::{Ack, Body, Frame, Message, Nack, Name, RingSize};
 use std::fmt;
 
 // A line with its number, as heard in a ring of this size.
@@ -30,12 +30,11 @@ fn show_body<W: fmt::Write>(body: Body, f: &mut fmt::Formatter<W>) -> fmt::Resul
     }
 }
 
-fn show_names<W: fmt::Write>(names: Names, f: &mut fmt::Formatter<W>) -> fmt::Result {
-    let named = &names.all[..names.count as usize];
-    if named.is_empty() {
+fn show_names<W: fmt::Write>(names: &[Name], f: &mut fmt::Formatter<W>) -> fmt::Result {
+    if names.is_empty() {
         return write!(f, ", no names");
     }
-    for name in named {
+    for name in names {
         write!(f, "; {name}")?;
     }
     Ok(())
@@ -47,20 +46,24 @@ fn show_frame<W: fmt::Write>(
     f: &mut fmt::Formatter<W>,
 ) -> fmt::Result {
     match frame {
-        Frame::Data { name, body } => {
+        Frame::Data(Message { name, body }) => {
             write!(f, "Data: {name}")?;
             show_body(body, f)
         }
-        Frame::Ack {
-            stamp,
-            issuer,
-            names,
-        } => {
+        Frame::Ack(
+            Ack {
+                stamp,
+                issuer,
+                names,
+            },
+        ) => {
             let next = (u16::from(issuer) + 1) % u16::from(size.heads);
             write!(f, "ACK: stamp {stamp}, issuer {issuer}, next {next}")?;
-            show_names(names, f)
+            show_names(names.as_slice(), f)
         }
-        Frame::Nack { from, to, stamp } => write!(f, "NACK: from {from}, to {to}, stamp {stamp}"),
+        Frame::Nack(Nack { from, to, stamp }) => {
+            write!(f, "NACK: from {from}, to {to}, stamp {stamp}")
+        }
     }
 }
 

@@ -22,9 +22,9 @@ impl From<Result<Frame, LineError>> for Sort {
 
     fn from(line: Result<Frame, LineError>) -> Sort {
         match line {
-            Ok(Frame::Data { .. }) => Sort::DataFrame,
-            Ok(Frame::Ack { .. }) => Sort::AckFrame,
-            Ok(Frame::Nack { .. }) => Sort::NackFrame,
+            Ok(Frame::Data(_)) => Sort::DataFrame,
+            Ok(Frame::Ack(_)) => Sort::AckFrame,
+            Ok(Frame::Nack(_)) => Sort::NackFrame,
             Err(LineError::Refused(Refusal::NotAFrame)) => Sort::NoFrame,
             Err(LineError::Refused(_)) => Sort::OutOfRange,
             Err(LineError::NotHex) => Sort::NoHex,

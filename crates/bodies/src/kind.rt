@@ -114,7 +114,7 @@ pub fn encode<K: Kind>(value: &K) -> Result<Body, Refusal>
 {
     let mut out = [0; 8];
     let len = value.write(&mut out)?;
-    Body::new(&out[..len])
+    Body::try_from(&out[..len])
 }
 
 // The value that the body says, where it is of this kind.

@@ -18,7 +18,7 @@ fn size_asked(rt: &HostRuntime) -> anyhow::Result<RingSize> {
         bail!(USAGE);
     };
     let heads = heads.parse::<u8>().map_err(|_| anyhow!(USAGE))?;
-    RingSize::new(heads).map_err(|refusal| anyhow!("{heads} heads: {refusal}"))
+    RingSize::try_from(heads).map_err(|refusal| anyhow!("{heads} heads: {refusal}"))
 }
 
 fn run(rt: &HostRuntime) -> anyhow::Result<()> {
