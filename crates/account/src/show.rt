@@ -3,7 +3,7 @@ use crate::line::LineError;
 use crate::tally::{Sort, Tally};
 use bodies::kind::decode;
 use bodies::values::{Door, Reading, SetPoint};
-use frames::types::{Ack, Body, Frame, Message, Nack, Name, RingSize};
+use frames::types::{Ack, Body, Frame, Name, RingSize};
 use std::fmt;
 
 // A line with its number, as heard in a ring of this size.
@@ -40,38 +40,32 @@ fn show_names<W: fmt::Write>(names: &[Name], f: &mut fmt::Formatter<W>) -> fmt::
     Ok(())
 }
 
-fn show_frame<W: fmt::Write>(
-    size: RingSize,
-    frame: Frame,
-    f: &mut fmt::Formatter<W>,
-) -> fmt::Result {
-    match frame {
-        Frame::Data(Message { name, body }) => {
-            write!(f, "Data: {name}")?;
-            show_body(body, f)
-        }
-        Frame::Ack(
-            Ack {
-                stamp,
-                issuer,
-                names,
-            },
-        ) => {
-            let next = (u16::from(issuer) + 1) % u16::from(size.heads);
-            write!(f, "ACK: stamp {stamp}, issuer {issuer}, next {next}")?;
-            show_names(names.as_slice(), f)
-        }
-        Frame::Nack(Nack { from, to, stamp }) => {
-            write!(f, "NACK: from {from}, to {to}, stamp {stamp}")
-        }
-    }
+fn show_ack<W: fmt::Write>(size: RingSize, ack: Ack, f: &mut fmt::Formatter<W>) -> fmt::Result {
+    let next = (u16::from(ack.issuer) + 1) % u16::from(size.heads);
+    write!(
+        f,
+        "ACK: stamp {}, issuer {}, next {next}",
+        ack.stamp, ack.issuer
+    )?;
+    show_names(ack.names.as_slice(), f)
 }
 
 impl fmt::Display for Entry {
     fn fmt<W: fmt::Write>(&self, f: &mut fmt::Formatter<W>) -> fmt::Result {
         write!(f, "{:>4}  ", self.number)?;
         match self.line {
-            Ok(frame) => show_frame(self.size, frame, f),
+            Ok(Frame::Data(message)) => {
+                write!(f, "Data: {}", message.name)?;
+                show_body(message.body, f)
+            }
+            Ok(Frame::Ack(ack)) => show_ack(self.size, ack, f),
+            Ok(Frame::Nack(nack)) => {
+                write!(
+                    f,
+                    "NACK: from {}, to {}, stamp {}",
+                    nack.from, nack.to, nack.stamp
+                )
+            }
             Err(error) => write!(f, "{error}"),
         }
     }
