@@ -1,5 +1,5 @@
 // What the calls answer.
-use frames::types::{Body, Frame, Name};
+use frames::types::{Body, Name};
 use store::look::Top;
 use store::types::Frames;
 
@@ -17,32 +17,13 @@ pub struct Message {
     pub body: Body,
 }
 
-// The new message. It is put as a Data frame.
-#[derive(Clone, Copy)]
-pub enum Submitted {
-    Made { name: Name, body: Body },
-}
-
-#[derive(Clone, Copy)]
-pub enum Heard {
-    Quiet,
-    Kept,
-    Filled,
-    Repeat,
-    Far,
-    Placed,
-    Crowded,
-    Resent { frame: Frame },
-    Nothing,
-}
-
-// What a submit answers, where the frame to put stands beside it: the number of the new message.
+// Made: with the number of the new message, whose Data frame is put.
 #[derive(Clone, Copy)]
 pub enum Submission {
     Made { number: u32 },
 }
 
-// What hear answers, where the frame to put stands beside it.
+// Resent: a frame is put, and only then.
 #[derive(Clone, Copy)]
 pub enum Hearing {
     Quiet,

@@ -1,14 +1,16 @@
 // Hearing a packet: its kind decides, and then the first rule that applies.
-ghost use Rattle.std.specs.Prelude.{◌≡◌, ◌+◌, ◌<◌, ◌≤◌, true, false, not, ◌&&◌, Some, None, Ok, ◌==◌};
-ghost use Rattle.frames.specs.Types.{name_of, message_of, asked_of};
+ghost use Rattle.std.specs.Prelude.{◌≡◌, ◌+◌, ◌<◌, ◌≤◌, true, false, not, ◌&&◌, Some, None, ◌==◌};
+ghost use Rattle.frames.specs.Types.{name_of, message_of, asked_of, frame_of};
+ghost use Rattle.frames.specs.Values.{frame_ok};
 ghost use Rattle.head.specs.Slots.{named};
 ghost use Rattle.head.specs.Queue.{names_it};
-ghost use Rattle.head.specs.Hear.{hear_slot, hear_unslotted, hear_data as m_hear_data, hear_ack as m_hear_ack, hear_nack as m_hear_nack, hear as m_hear, asks};
+ghost use Rattle.head.specs.Hear.{hear_slot, hear_unslotted, hear_data as m_hear_data, hear_ack as m_hear_ack, hear_nack as m_hear_nack, hear_frame, hear as m_hear, asks};
+ghost use Rattle.head.specs.Upkeep.{settled};
 ghost use Rattle.store.specs.Parts.{ack_of};
 ghost use Rattle.calls.specs.Model.{model};
-ghost use Rattle.calls.specs.Answers.{did, does, heard_before, heard_after, hearing};
+ghost use Rattle.calls.specs.Answers.{did, does, does_before, hears_before, hearing};
 
-use crate::answers::{Done, Heard, Hearing};
+use crate::answers::{Done, Hearing};
 use crate::machine::Head;
 use frames::read::read;
 use frames::refusal::Refusal;
@@ -18,11 +20,11 @@ use store::types::Slot;
 
 impl Head {
     // The slot at a place names the message.
-    fn take_slotted(&mut self, i: usize, name: Name, body: Body) -> Result<Heard, Refusal>
+    fn take_slotted(&mut self, i: usize, name: Name, body: Body) -> Result<Hearing, Refusal>
         requires place { i < 96 }
         requires named { names_it (name_of name) (named ((model self.old).queue (self.old.queue.base + i))) ≡ true }
         ensures size { self.new.size ≡ self.old.size }
-        ensures after { heard_before self.old.size.heads result (model self.new) ≡ hear_slot self.old.size.heads (model self.old) (message_of name body) (self.old.queue.base + i) ((model self.old).queue (self.old.queue.base + i)) }
+        ensures after { hears_before self.old.size.heads result (model self.new) ≡ hear_slot self.old.size.heads (model self.old) (message_of name body) (self.old.queue.base + i) ((model self.old).queue (self.old.queue.base + i)) }
     {
         let slot = self.queue.slots[i];
         match slot {
@@ -33,7 +35,7 @@ impl Head {
                 match had {
                     Some(b) => {
                         if is_body(body, b) {
-                            Ok(Heard::Repeat)
+                            Ok(Hearing::Repeat)
                         } else {
                             Err(Refusal::Contradiction)
                         }
@@ -42,7 +44,7 @@ impl Head {
                         self.queue.fill(i, body);
                         self.ticks = 0;
                         self.tries = 0;
-                        Ok(Heard::Filled)
+                        Ok(Hearing::Filled)
                     }
                 }
             }
@@ -51,36 +53,36 @@ impl Head {
     }
 
     // No slot names the message.
-    fn take_unslotted(&mut self, name: Name, body: Body) -> Result<Heard, Refusal>
+    fn take_unslotted(&mut self, name: Name, body: Body) -> Result<Hearing, Refusal>
         ensures size { self.new.size ≡ self.old.size }
-        ensures after { heard_before self.old.size.heads result (model self.new) ≡ hear_unslotted self.old.size.heads (model self.old) (message_of name body) }
+        ensures after { hears_before self.old.size.heads result (model self.new) ≡ hear_unslotted self.old.size.heads (model self.old) (message_of name body) }
     {
         let low = self.inbox.low[name.source as usize];
         if name.number <= low {
-            return Ok(Heard::Repeat);
+            return Ok(Hearing::Repeat);
         }
         if name.number - low > 4 {
-            return Ok(Heard::Far);
+            return Ok(Hearing::Far);
         }
         match self.inbox.waiting(name) {
             Some(k) => {
                 if name.level.number == k.level.number && is_body(body, k.body) {
-                    Ok(Heard::Repeat)
+                    Ok(Hearing::Repeat)
                 } else {
                     Err(Refusal::Contradiction)
                 }
             }
             None => {
                 self.inbox.keep(name, body);
-                Ok(Heard::Kept)
+                Ok(Hearing::Kept)
             }
         }
     }
 
     // A Data frame, before the upkeep.
-    fn take_data(&mut self, name: Name, body: Body) -> Result<Heard, Refusal>
+    fn take_data(&mut self, name: Name, body: Body) -> Result<Hearing, Refusal>
         ensures size { self.new.size ≡ self.old.size }
-        ensures after { heard_before self.old.size.heads result (model self.new) ≡ m_hear_data self.old.size.heads (message_of name body) (model self.old) }
+        ensures after { hears_before self.old.size.heads result (model self.new) ≡ m_hear_data self.old.size.heads (message_of name body) (model self.old) }
     {
         if self.is_own_above(name) {
             return Err(Refusal::Contradiction);
@@ -92,16 +94,16 @@ impl Head {
     }
 
     // An ACK, before the upkeep.
-    fn take_ack(&mut self, stamp: u32, issuer: u8, names: Names) -> Result<Heard, Refusal>
+    fn take_ack(&mut self, stamp: u32, issuer: u8, names: Names) -> Result<Hearing, Refusal>
         requires { stamp + names.count ≤ 1000000 }
         ensures size { self.new.size ≡ self.old.size }
-        ensures after { heard_before self.old.size.heads result (model self.new) ≡ m_hear_ack self.old.size.heads (ack_of stamp issuer names) (model self.old) }
+        ensures after { hears_before self.old.size.heads result (model self.new) ≡ m_hear_ack self.old.size.heads (ack_of stamp issuer names) (model self.old) }
     {
         if stamp < self.queue.base {
-            return Ok(Heard::Repeat);
+            return Ok(Hearing::Repeat);
         }
         if !self.queue.has_places(stamp, names.count) {
-            return Ok(Heard::Crowded);
+            return Ok(Hearing::Crowded);
         }
         let slot = self.queue.at(stamp as u64);
         if let Slot::Ack {
@@ -110,7 +112,7 @@ impl Head {
         } = slot
         {
             return if i == issuer && is_list(ns, names) {
-                Ok(Heard::Repeat)
+                Ok(Hearing::Repeat)
             } else {
                 Err(Refusal::Contradiction)
             };
@@ -119,26 +121,7 @@ impl Head {
             return Err(Refusal::Contradiction);
         }
         self.place(stamp, issuer, names);
-        Ok(Heard::Placed)
-    }
-
-    fn hear_data(&mut self, name: Name, body: Body) -> Result<Heard, Refusal>
-        ensures size { self.new.size ≡ self.old.size }
-        ensures after { heard_after result (model self.new) ≡ m_hear_data self.old.size.heads (message_of name body) (model self.old) }
-    {
-        let answer = self.take_data(name, body)?;
-        self.settle();
-        Ok(answer)
-    }
-
-    fn hear_ack(&mut self, stamp: u32, issuer: u8, names: Names) -> Result<Heard, Refusal>
-        requires { stamp + names.count ≤ 1000000 }
-        ensures size { self.new.size ≡ self.old.size }
-        ensures after { heard_after result (model self.new) ≡ m_hear_ack self.old.size.heads (ack_of stamp issuer names) (model self.old) }
-    {
-        let answer = self.take_ack(stamp, issuer, names)?;
-        self.settle();
-        Ok(answer)
+        Ok(Hearing::Placed)
     }
 
     // A NACK from another head asks this one.
@@ -152,50 +135,46 @@ impl Head {
     }
 
     // A NACK, before the upkeep: the frame of a full slot is put again.
-    fn take_nack(&self, from: u8, to: To, stamp: u32) -> Heard
-        ensures { heard_before self.now.size.heads (Ok result) (model self.now) ≡ m_hear_nack self.now.size.heads from (asked_of to) stamp (model self.now) }
+    #[tactic(auto, unfolding(head::specs::Hear::hear_nack))]
+    fn take_nack(&self, from: u8, to: To, stamp: u32) -> Done<Hearing>
+        ensures { did hearing result (settled self.now.size.heads (model self.now)) ≡ m_hear_nack self.now.size.heads from (asked_of to) stamp (model self.now) }
     {
         if !self.is_asked(from, to) || stamp < self.queue.base {
-            return Heard::Nothing;
+            return Done::new(Hearing::Nothing, None);
         }
         match self.queue.frame_at(stamp) {
-            Some(frame) => Heard::Resent { frame },
-            None => Heard::Nothing,
+            Some(frame) => Done::new(Hearing::Resent, Some(frame)),
+            None => Done::new(Hearing::Nothing, None),
         }
     }
 
-    fn hear_nack(&mut self, from: u8, to: To, stamp: u32) -> Heard
+    // A frame, before the upkeep: its kind decides, and within it the first rule that applies.
+    fn take(&mut self, frame: Frame) -> Result<Done<Hearing>, Refusal>
+        requires { frame_ok self.old.size.heads (frame_of frame) ≡ true }
         ensures size { self.new.size ≡ self.old.size }
-        ensures after { heard_after (Ok result) (model self.new) ≡ m_hear_nack self.old.size.heads from (asked_of to) stamp (model self.old) }
+        ensures after { does_before self.old.size.heads hearing result (model self.new) ≡ hear_frame self.old.size.heads (frame_of frame) (model self.old) }
     {
-        let answer = self.take_nack(from, to, stamp);
-        self.settle();
-        answer
-    }
-
-    // The bytes of a packet: what they are decides, and within its kind the first rule that applies.
-    pub fn hear(&mut self, bytes: &[u8]) -> Result<Heard, Refusal>
-        ensures size { self.new.size ≡ self.old.size }
-        ensures after { heard_after result (model self.new) ≡ m_hear self.old.size.heads (Some bytes.now) (model self.old) }
-    {
-        match read(self.size, bytes)? {
-            Frame::Data { name, body } => self.hear_data(name, body),
+        match frame {
+            Frame::Data { name, body } => Ok(Done::new(self.take_data(name, body)?, None)),
             Frame::Ack {
                 stamp,
                 issuer,
                 names,
-            } => self.hear_ack(stamp, issuer, names),
-            Frame::Nack { from, to, stamp } => Ok(self.hear_nack(from, to, stamp)),
+            } => Ok(Done::new(self.take_ack(stamp, issuer, names)?, None)),
+            Frame::Nack { from, to, stamp } => Ok(self.take_nack(from, to, stamp)),
         }
     }
 
-    // The same, with the frame to put.
-    pub fn hear_done(&mut self, bytes: &[u8]) -> Result<Done<Hearing>, Refusal>
+    // The bytes of a packet, with the frame to put.
+    #[tactic(auto, using(head::proofs::Ranges::read_in), unfolding(head::specs::Hear::hear))]
+    pub fn hear(&mut self, bytes: &[u8]) -> Result<Done<Hearing>, Refusal>
         ensures size { self.new.size ≡ self.old.size }
         ensures after { does hearing result (model self.new) ≡ m_hear self.old.size.heads (Some bytes.now) (model self.old) }
     {
-        let answer = self.hear(bytes)?;
-        Ok(answer.done())
+        let frame = read(self.size, bytes)?;
+        let done = self.take(frame)?;
+        self.settle();
+        Ok(done)
     }
 
     // No packet came.

@@ -29,7 +29,7 @@ impl Member {
         ensures size { self.new.head.size ≡ self.old.head.size }
         ensures after { does submission result (model_of self.new) ≡ m_submit self.old.head.size.heads level bytes.now (model_of self.old) }
     {
-        self.head.submit_done(level, bytes)
+        self.head.submit(level, bytes)
     }
 
     // The bytes of a packet.
@@ -37,7 +37,7 @@ impl Member {
         ensures size { self.new.head.size ≡ self.old.head.size }
         ensures after { does hearing result (model_of self.new) ≡ m_hear self.old.head.size.heads (Some bytes.now) (model_of self.old) }
     {
-        self.head.hear_done(bytes)
+        self.head.hear(bytes)
     }
 
     // No packet came.

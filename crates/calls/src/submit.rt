@@ -2,9 +2,9 @@
 ghost use Rattle.std.specs.Prelude.{◌≡◌, ℕ, suc, ◌+◌, ◌-◌, ◌<◌, ◌≤◌};
 ghost use Rattle.head.specs.Submit.{submit as m_submit};
 ghost use Rattle.calls.specs.Model.{model};
-ghost use Rattle.calls.specs.Answers.{does, made_before, made_after, makes_before, submission};
+ghost use Rattle.calls.specs.Answers.{does, makes_before, submission};
 
-use crate::answers::{Done, Message, Submission, Submitted};
+use crate::answers::{Done, Message, Submission};
 use crate::machine::Head;
 use frames::refusal::Refusal;
 use frames::types::{Body, Frame, Level, Name};
@@ -33,27 +33,8 @@ impl Head {
         Ok(Message { name, body })
     }
 
-    // Before the upkeep.
-    fn make(&mut self, level: u8, bytes: &[u8]) -> Result<Submitted, Refusal>
-        ensures size { self.new.size ≡ self.old.size }
-        ensures after { made_before self.old.size.heads result (model self.new) ≡ m_submit self.old.size.heads level bytes.now (model self.old) }
-    {
-        let Message { name, body } = self.compose(level, bytes)?;
-        Ok(Submitted::Made { name, body })
-    }
-
-    // A new message of this head.
-    pub fn submit(&mut self, level: u8, bytes: &[u8]) -> Result<Submitted, Refusal>
-        ensures size { self.new.size ≡ self.old.size }
-        ensures after { made_after result (model self.new) ≡ m_submit self.old.size.heads level bytes.now (model self.old) }
-    {
-        let answer = self.make(level, bytes)?;
-        self.settle();
-        Ok(answer)
-    }
-
     // A new message of this head, with its Data frame to put.
-    pub fn submit_done(&mut self, level: u8, bytes: &[u8]) -> Result<Done<Submission>, Refusal>
+    pub fn submit(&mut self, level: u8, bytes: &[u8]) -> Result<Done<Submission>, Refusal>
         ensures size { self.new.size ≡ self.old.size }
         ensures after { does submission result (model self.new) ≡ m_submit self.old.size.heads level bytes.now (model self.old) }
     {
