@@ -1,6 +1,7 @@
 -- The rules of hear, one by one.
-use Rattle.std.proofs.Common.{◌≡◌, ℕ, suc, ◌+◌, ◌<◌, ◌≤◌, max, Bool, true, false, cond, not, ◌&&◌, eqb, ltb, leb, ◌⊎◌, List, [], ◌∷◌, get_or, Some, None, Option, sym, refl, ap, ◌∙◌, inl, inr, arith}
+use Rattle.std.proofs.Common.{◌≡◌, ℕ, suc, ◌+◌, map, ◌||◌, ◌<◌, ◌≤◌, max, Bool, true, false, cond, not, ◌&&◌, eqb, ltb, leb, ◌⊎◌, List, [], ◌∷◌, get_or, Some, None, Ok, Err, Option, sym, refl, ap, ◌∙◌, inl, inr, arith}
 use Rattle.std.proofs.lemmas.Bool.{eq-eqb, leb-false, cases_Bool, ne_eqb, and_left, le-leb, lt-leb, lt-ltb, le-ltb, or_parts, not-false, ltb-false}
+use Rattle.std.specs.List.{list_any}
 use Rattle.frames.specs.declared.types.Name.{Name as CName}
 use Rattle.frames.specs.declared.types.Names.{Names}
 use Rattle.frames.specs.declared.types.Body.{Body}
@@ -16,6 +17,8 @@ use Rattle.store.specs.declared.types.Slot.{Slot as CSlot}
 use Rattle.store.specs.declared.types.Slot.TheVariants.{Unknown, Ack as CAck, Data}
 use Rattle.store.specs.Parts.{spans, ack_of, with_body, data_of, slot_of, queue_of, table_of, OwnAck}
 use Rattle.calls.specs.declared.machine.Head.{Head as CHead}
+use Rattle.calls.specs.declared.answers.Hearing.TheVariants.{Repeat}
+use Rattle.calls.specs.Answers.{hears_before}
 use Rattle.calls.specs.Model.{model}
 use Rattle.head.proofs.Slots.{same_name_is}
 use Rattle.store.proofs.View.{queue_read}
@@ -64,6 +67,13 @@ module _ (n : ℕ) (h : Head) (m : Message) where
   slot_rest t Unknown e = refl
   slot_rest t (CAck i ns) e = refl
   slot_rest t (Data x o) e = absurd (e x o refl)
+
+-- what is equal to what is known
+pub repeat_or : (n : ℕ) (h : Head) (b c : Bool) → b ≡ c → hears_before n (cond b (Ok Repeat) (Err Contradiction)) h ≡ elim c [ true ↦ done n repeat h [] | false ↦ refuse Contradiction h ]
+repeat_or n h true true e = refl
+repeat_or n h false false e = refl
+repeat_or n h true false e = absurd cc
+repeat_or n h false true e = absurd cc
 
 -- a bare slot of the message's name takes its body
 pub slot_whole : (q : Queue) (t : ℕ) (m : Message) (x : Name) (r : Queue) → q t ≡ bare x → same_message m.name x ≡ true → eqb m.name.level x.level ≡ true → r ≡ (λ s. cond (eqb s t) (with_body m.body (q s)) (q s)) → r ≡ (λ s. cond (eqb s t) (whole m) (q s))
@@ -124,6 +134,11 @@ bad_own h (x ∷ xs) e =
     let a = or_parts (found (place_of h.queue x 96 h.base)) _ p.0 in
     let b = or_parts (leb x.number (low h x.source)) _ a.1 in
     (own_name h x (or_parts (own_above h x) _ b.1).0, bad_own h xs p.1)
+
+-- one of the names is bad
+pub any_bad : (h : Head) (xs : List CName) → list_any (λ x. bad_name h (name_of x)) xs ≡ bad_names h (map name_of xs)
+any_bad h [] = refl
+any_bad h (x ∷ xs) = ap (λ b. bad_name h (name_of x) || b) (any_bad h xs)
 
 pub new_own : (h : Head) (a : Ack) → contradicts h a ≡ false → OwnAck h.me h.made a
 new_own h a e =

@@ -15,10 +15,7 @@ impl Head {
     fn is_slotted(&self, name: Name) -> bool
         ensures { result ≡ found (place_of (model self.now).queue (name_of name) 96 (model self.now).base) }
     {
-        match self.queue.find(name) {
-            None => false,
-            Some(_) => true,
-        }
+        self.queue.find(name).is_some()
     }
 
     fn is_old(&self, name: Name) -> bool
@@ -38,10 +35,9 @@ impl Head {
     fn is_otherwise(&self, name: Name) -> bool
         ensures { result ≡ other_level name.level.number ((model self.now).pending name.source name.number) }
     {
-        match self.inbox.waiting(name) {
-            None => false,
-            Some(k) => name.level.number != k.level.number,
-        }
+        self.inbox
+            .waiting(name)
+            .is_some_and(|kept| name.level.number != kept.level.number)
     }
 
     fn is_bad(&self, name: Name) -> bool
@@ -56,12 +52,9 @@ impl Head {
     fn any_bad(&self, names: Names) -> bool
         ensures { result ≡ bad_names (model self.now) (names_of names) }
     {
-        for i in 0..names.count as usize {
-            if self.is_bad(names.all[i]) {
-                return true;
-            }
-        }
-        false
+        names.all[..names.count as usize]
+            .iter()
+            .any(|name| self.is_bad(*name))
     }
 
     // A slot of the ACK's block is not unknown.

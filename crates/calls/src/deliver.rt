@@ -44,13 +44,14 @@ impl Head {
         ensures after { done self.old.size.heads (handed result) (model self.new) [] ≡ m_hand_over self.old.size.heads (model self.old) ((model self.old).queue (model self.old).due) }
     {
         let slot = self.queue.at(self.due as u64);
-        match slot {
-            Slot::Data { name, body } => match body {
-                Some(body) => self.hand_whole(name, body),
-                None => Delivered::Waiting,
-            },
-            _ => Delivered::Waiting,
-        }
+        let Slot::Data {
+            name,
+            body: Some(body),
+        } = slot
+        else {
+            return Delivered::Waiting;
+        };
+        self.hand_whole(name, body)
     }
 
     // The next message of the common list.

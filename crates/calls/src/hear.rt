@@ -1,10 +1,10 @@
 // Hearing a packet: its kind decides, and then the first rule that applies.
-ghost use Rattle.std.specs.Prelude.{◌≡◌, ◌+◌, ◌<◌, ◌≤◌, true, false, not, ◌&&◌, Some, None, ◌==◌};
-ghost use Rattle.frames.specs.Types.{name_of, message_of, asked_of, frame_of};
+ghost use Rattle.std.specs.Prelude.{◌≡◌, Bool, cond, if◌then◌else◌, Ok, Err, ◌+◌, ◌<◌, ◌≤◌, true, false, not, ◌&&◌, Some, None, ◌==◌};
+ghost use Rattle.frames.specs.Types.{name_of, message_of, asked_of, body_of, frame_of};
 ghost use Rattle.frames.specs.Values.{frame_ok};
 ghost use Rattle.head.specs.Slots.{named};
 ghost use Rattle.head.specs.Queue.{names_it};
-ghost use Rattle.head.specs.Hear.{hear_slot, hear_unslotted, hear_data as m_hear_data, hear_ack as m_hear_ack, hear_nack as m_hear_nack, hear_frame, hear as m_hear, asks};
+ghost use Rattle.head.specs.Hear.{hear_slot, hear_unslotted, same_kept, hear_data as m_hear_data, hear_ack as m_hear_ack, hear_nack as m_hear_nack, hear_frame, hear as m_hear, asks};
 ghost use Rattle.head.specs.Upkeep.{settled};
 ghost use Rattle.store.specs.Parts.{ack_of};
 ghost use Rattle.calls.specs.Model.{model};
@@ -16,43 +16,55 @@ use frames::read::read;
 use frames::refusal::Refusal;
 use frames::types::{Body, Frame, Name, Names, To};
 use store::same::{is_body, is_list};
-use store::types::Slot;
+use store::types::{Kept, Slot};
+
+// What is known under its number or stamp already: a repeat where it is equal, otherwise a contradiction.
+fn repeated(equal: bool) -> Result<Hearing, Refusal>
+    ensures { result ≡ (if equal then Ok Hearing.Repeat else Err Refusal.Contradiction) }
+{
+    equal
+        .then_some(Hearing::Repeat)
+        .ok_or(Refusal::Contradiction)
+}
+
+// Equal to what is pending under its number.
+fn is_kept(name: Name, body: Body, kept: Kept) -> bool
+    ensures { result ≡ same_kept (message_of name body) (record { level = kept.level.number; body = body_of kept.body }) }
+{
+    name.level.number == kept.level.number && is_body(body, kept.body)
+}
 
 impl Head {
     // The slot at a place names the message.
+    #[tactic(auto, using(crate::proofs::Hearing::slot_whole, crate::proofs::Hearing::slot_rest), unfolding(head::specs::Head::fill))]
     fn take_slotted(&mut self, i: usize, name: Name, body: Body) -> Result<Hearing, Refusal>
         requires place { i < 96 }
         requires named { names_it (name_of name) (named ((model self.old).queue (self.old.queue.base + i))) ≡ true }
         ensures size { self.new.size ≡ self.old.size }
         ensures after { hears_before self.old.size.heads result (model self.new) ≡ hear_slot self.old.size.heads (model self.old) (message_of name body) (self.old.queue.base + i) ((model self.old).queue (self.old.queue.base + i)) }
     {
-        let slot = self.queue.slots[i];
-        match slot {
-            Slot::Data { name: x, body: had } => {
-                if name.level.number != x.level.number {
-                    return Err(Refusal::Contradiction);
-                }
-                match had {
-                    Some(b) => {
-                        if is_body(body, b) {
-                            Ok(Hearing::Repeat)
-                        } else {
-                            Err(Refusal::Contradiction)
-                        }
-                    }
-                    None => {
-                        self.queue.fill(i, body);
-                        self.ticks = 0;
-                        self.tries = 0;
-                        Ok(Hearing::Filled)
-                    }
-                }
-            }
-            _ => Err(Refusal::Contradiction),
+        let slot = self.queue.at(self.queue.base as u64 + i as u64);
+        let Slot::Data {
+            name: slotted,
+            body: had,
+        } = slot
+        else {
+            return Err(Refusal::Contradiction);
+        };
+        if name.level.number != slotted.level.number {
+            return Err(Refusal::Contradiction);
         }
+        let Some(had) = had else {
+            self.queue.fill(i, body);
+            self.ticks = 0;
+            self.tries = 0;
+            return Ok(Hearing::Filled);
+        };
+        repeated(is_body(body, had))
     }
 
     // No slot names the message.
+    #[tactic(auto, using(crate::proofs::Lows::low_is, crate::proofs::Lows::near), unfolding(head::specs::Head::keep))]
     fn take_unslotted(&mut self, name: Name, body: Body) -> Result<Hearing, Refusal>
         ensures size { self.new.size ≡ self.old.size }
         ensures after { hears_before self.old.size.heads result (model self.new) ≡ hear_unslotted self.old.size.heads (model self.old) (message_of name body) }
@@ -64,19 +76,11 @@ impl Head {
         if name.number - low > 4 {
             return Ok(Hearing::Far);
         }
-        match self.inbox.waiting(name) {
-            Some(k) => {
-                if name.level.number == k.level.number && is_body(body, k.body) {
-                    Ok(Hearing::Repeat)
-                } else {
-                    Err(Refusal::Contradiction)
-                }
-            }
-            None => {
-                self.inbox.keep(name, body);
-                Ok(Hearing::Kept)
-            }
-        }
+        let Some(kept) = self.inbox.waiting(name) else {
+            self.inbox.keep(name, body);
+            return Ok(Hearing::Kept);
+        };
+        repeated(is_kept(name, body, kept))
     }
 
     // A Data frame, before the upkeep.
@@ -94,6 +98,7 @@ impl Head {
     }
 
     // An ACK, before the upkeep.
+    #[tactic(auto, using(crate::proofs::Hearing::new_own), unfolding(head::specs::Hear::hear_ack))]
     fn take_ack(&mut self, stamp: u32, issuer: u8, names: Names) -> Result<Hearing, Refusal>
         requires { stamp + names.count ≤ 1000000 }
         ensures size { self.new.size ≡ self.old.size }
@@ -111,11 +116,7 @@ impl Head {
             names: ns,
         } = slot
         {
-            return if i == issuer && is_list(ns, names) {
-                Ok(Hearing::Repeat)
-            } else {
-                Err(Refusal::Contradiction)
-            };
+            return repeated(i == issuer && is_list(ns, names));
         }
         if self.contradicts(stamp, issuer, names) {
             return Err(Refusal::Contradiction);

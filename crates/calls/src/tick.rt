@@ -18,17 +18,14 @@ use store::types::Frames;
 
 impl Head {
     // The top ACK, if it is this head's own.
+    #[tactic(auto, unfolding(head::specs::Head::top))]
     fn own_top(&self) -> Option<Frame>
         ensures { put_of result ≡ own_again (model self.now) (top (model self.now)) }
     {
-        match self.queue.top() {
-            None => None,
-            Some(ack) => if ack.issuer == self.me {
-                Some(ack.frame())
-            } else {
-                None
-            },
-        }
+        self.queue
+            .top()
+            .filter(|ack| ack.issuer == self.me)
+            .map(|ack| ack.frame())
     }
 
     // With no new ACK: the NACK, if one is wanted, and what is its own. Before the upkeep.
@@ -39,7 +36,7 @@ impl Head {
     {
         let puts = Frames::of(nack, self.own_top(), self.lowest_own());
         self.ticks = 0;
-        self.tries = if self.tries < 15 { self.tries + 1 } else { 15 };
+        self.tries = self.tries.saturating_add(1).min(15);
         Done {
             answer: Ticked::Fired { count: puts.count },
             puts,

@@ -13,13 +13,13 @@ use store::look::Top;
 
 impl Head {
     // The head that the top ACK names as next; head 0 while no ACK is known.
+    #[tactic(auto, unfolding(head::specs::Head::top))]
     fn next(&self) -> u8
         ensures { result ≡ next_of self.now.size.heads (top (model self.now)) }
     {
-        match self.queue.top() {
-            None => 0,
-            Some(ack) => ((ack.issuer as u16 + 1) % self.size.heads as u16) as u8,
-        }
+        self.queue.top().map_or(0, |ack| {
+            ((ack.issuer as u16 + 1) % self.size.heads as u16) as u8
+        })
     }
 
     // It is named as next, and has all that it knows of.
