@@ -1,4 +1,4 @@
-// What the calls answer.
+// What the calls answer: the words of docs/PROTOCOL.md, one case for each. So an answer of a single case, or of one beside a case with nothing, is no plainer as a number or an Option.
 use frames::types::{Body, Name};
 use store::look::Top;
 use store::types::Frames;

@@ -18,6 +18,7 @@ impl Head {
         self.queue.find(name).is_some()
     }
 
+    #[tactic(auto, using(crate::proofs::Lows::low_is))]
     fn is_old(&self, name: Name) -> bool
         ensures { result ≡ nat_le name.number (low (model self.now) name.source) }
     {

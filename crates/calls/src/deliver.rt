@@ -55,6 +55,7 @@ impl Head {
     }
 
     // The next message of the common list.
+    #[tactic(auto, unfolding(head::specs::Deliver::deliver))]
     pub fn deliver(&mut self) -> Done<Delivered>
         ensures size { self.new.size ≡ self.old.size }
         ensures after { did handed result (model self.new) ≡ m_deliver self.old.size.heads (model self.old) }

@@ -84,6 +84,7 @@ impl Head {
     }
 
     // A Data frame, before the upkeep.
+    #[tactic(auto, unfolding(head::specs::Hear::hear_data))]
     fn take_data(&mut self, name: Name, body: Body) -> Result<Hearing, Refusal>
         ensures size { self.new.size ≡ self.old.size }
         ensures after { hears_before self.old.size.heads result (model self.new) ≡ m_hear_data self.old.size.heads (message_of name body) (model self.old) }
@@ -179,6 +180,7 @@ impl Head {
     }
 
     // No packet came.
+    #[tactic(auto, unfolding(head::specs::Hear::hear))]
     pub fn hear_nothing(&mut self) -> Done<Hearing>
         ensures size { self.new.size ≡ self.old.size }
         ensures after { did hearing result (model self.new) ≡ m_hear self.old.size.heads None (model self.old) }

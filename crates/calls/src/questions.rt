@@ -21,6 +21,7 @@ impl Head {
     }
 
     // The lowest stamp that is not full.
+    #[tactic(auto, unfolding(head::specs::Head::mark))]
     pub fn mark(&self) -> u32
         ensures { result ≡ m_mark (model self.now) }
     {
@@ -28,6 +29,7 @@ impl Head {
     }
 
     // One past the highest stamp that is known.
+    #[tactic(auto, using(head::proofs::Walk::past_last_ends), unfolding(head::specs::Head::end))]
     pub fn end(&self) -> u32
         ensures value { result ≡ m_end (model self.now) }
         ensures bound { result ≤ self.now.queue.base + 96 }

@@ -11,6 +11,7 @@ use frames::types::{Body, Frame, Level, Name};
 
 impl Head {
     // The new message. Before the upkeep.
+    #[tactic(auto, using(crate::proofs::Lows::low_is, crate::proofs::Lows::low_own, crate::proofs::Lows::near), unfolding(head::specs::Submit::submit, head::specs::Head::keep))]
     fn compose(&mut self, level: u8, bytes: &[u8]) -> Result<Message, Refusal>
         ensures size { self.new.size ≡ self.old.size }
         ensures after { makes_before self.old.size.heads result (model self.new) ≡ m_submit self.old.size.heads level bytes.now (model self.old) }

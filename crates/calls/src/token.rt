@@ -5,9 +5,10 @@ ghost use Rattle.head.specs.Head.{holds, next_of, place, room, stamps_left, top}
 ghost use Rattle.head.specs.Turn.{new_ack, to_order};
 ghost use Rattle.store.specs.Parts.{ack_of};
 ghost use Rattle.calls.specs.Model.{model};
-ghost use Rattle.calls.specs.Sendable.{Sendable};
+ghost use Rattle.calls.specs.Members.{model_of};
 
 use crate::machine::Head;
+use crate::member::Member;
 use frames::types::Names;
 use store::look::Top;
 
@@ -23,6 +24,7 @@ impl Head {
     }
 
     // It is named as next, and has all that it knows of.
+    #[tactic(auto, unfolding(head::specs::Head::holds))]
     pub(crate) fn holds_token(&self) -> bool
         ensures { result ≡ holds self.now.size.heads (model self.now) }
     {
@@ -42,22 +44,22 @@ impl Head {
     {
         self.end() + 4 <= 1_000_000
     }
+}
 
+impl Member {
     // Issues the next ACK: it takes the stamp end, and is placed.
     pub(crate) fn issue(&mut self, names: Names) -> Top
-        requires room { room (model self.old) ≡ true }
-        requires stamps { stamps_left (model self.old) ≡ true }
-        requires sendable { Sendable (model self.old) }
-        requires chosen { names_of names ≡ to_order self.old.size.heads (model self.old) }
-        ensures size { self.new.size ≡ self.old.size }
-        ensures sendable { Sendable (model self.new) }
-        ensures ack { ack_of result.stamp result.issuer result.names ≡ new_ack (model self.old) (names_of names) }
+        requires room { room (model_of self.old) ≡ true }
+        requires stamps { stamps_left (model_of self.old) ≡ true }
+        requires chosen { names_of names ≡ to_order self.old.head.size.heads (model_of self.old) }
+        ensures size { self.new.head.size ≡ self.old.head.size }
+        ensures ack { ack_of result.stamp result.issuer result.names ≡ new_ack (model_of self.old) (names_of names) }
         ensures names { result.names ≡ names }
-        ensures after { model self.new ≡ place (model self.old) (new_ack (model self.old) (names_of names)) }
+        ensures after { model_of self.new ≡ place (model_of self.old) (new_ack (model_of self.old) (names_of names)) }
     {
-        let stamp = self.end();
-        let issuer = self.me;
-        self.place(stamp, issuer, names);
+        let stamp = self.head.end();
+        let issuer = self.head.me;
+        self.head.place(stamp, issuer, names);
         Top {
             stamp,
             issuer,
