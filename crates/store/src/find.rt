@@ -13,10 +13,7 @@ impl Slot {
     pub fn is_named(&self, name: Name) -> bool
         ensures { result ≡ names_it (name_of name) (named (slot_of self.now)) }
     {
-        match *self {
-            Slot::Data { name: x, .. } => is_message(name, x),
-            _ => false,
-        }
+        matches!(*self, Slot::Data { name: x, .. } if is_message(name, x))
     }
 }
 
@@ -26,11 +23,6 @@ impl Queue {
         ensures place { stamp_at self.now.base result ≡ place_of (queue_of self.now.base self.now.slots) (name_of name) 96 self.now.base }
         ensures bound { MatchOption result (⊥ → ⊥) (λ i. (i < 96) × (names_it (name_of name) (named (queue_of self.now.base self.now.slots (self.now.base + i))) ≡ true)) }
     {
-        for (i, s) in self.slots.iter().enumerate() {
-            if s.is_named(name) {
-                return Some(i);
-            }
-        }
-        None
+        self.slots.iter().position(|slot| slot.is_named(name))
     }
 }

@@ -10,10 +10,7 @@ impl Slot {
     pub fn is_known(&self) -> bool
         ensures { result ≡ known (slot_of self.now) }
     {
-        match self {
-            Slot::Unknown => false,
-            _ => true,
-        }
+        !matches!(self, Slot::Unknown)
     }
 
     pub fn is_full(&self) -> bool
@@ -29,10 +26,7 @@ impl Slot {
     pub fn is_ack(&self) -> bool
         ensures { result ≡ m_is_ack (slot_of self.now) }
     {
-        match self {
-            Slot::Ack { .. } => true,
-            _ => false,
-        }
+        matches!(self, Slot::Ack { .. })
     }
 }
 
@@ -52,36 +46,25 @@ impl Queue {
     pub fn mark(&self) -> u32
         ensures { result ≡ first_not full (queue_of self.now.base self.now.slots) 96 self.now.base }
     {
-        for (i, s) in self.slots.iter().enumerate() {
-            if !s.is_full() {
-                return self.base + i as u32;
-            }
-        }
-        self.base + 96
+        let places = self.slots.iter().take_while(|slot| slot.is_full()).count();
+        self.base + places as u32
     }
 
     // One past the highest stamp that is known.
     pub fn end(&self) -> u32
         ensures { result ≡ past_last known (queue_of self.now.base self.now.slots) 96 self.now.base }
     {
-        for i in (0..96u32).rev() {
-            if self.slots[i as usize].is_known() {
-                return self.base + i + 1;
-            }
+        match self.slots.iter().rposition(|slot| slot.is_known()) {
+            Some(i) => self.base + i as u32 + 1,
+            None => self.base,
         }
-        self.base
     }
 
     // The k stamps from this one on are unknown.
     pub fn is_free(&self, stamp: u32, k: u8) -> bool
         ensures { result ≡ all_unknown (queue_of self.now.base self.now.slots) k stamp }
     {
-        for i in 0..k {
-            let slot = self.at(stamp as u64 + i as u64);
-            if slot.is_known() {
-                return false;
-            }
-        }
-        true
+        let from = stamp as u64;
+        (from..from + k as u64).all(|stamp| !self.at(stamp).is_known())
     }
 }

@@ -74,13 +74,7 @@ impl Queue {
     pub fn acks(&self) -> usize
         ensures { result ≡ m_acks (queue_of self.now.base self.now.slots) 96 self.now.base }
     {
-        let mut n = 0;
-        for s in &self.slots {
-            if s.is_ack() {
-                n += 1;
-            }
-        }
-        n
+        self.slots.iter().filter(|slot| slot.is_ack()).count()
     }
 
     // The number of data slots of the ACK at base, where it can be given up.
