@@ -1,14 +1,18 @@
 -- A queue as the list of its slots: what a walk over the queue finds is what the list's own words say.
-use Rattle.std.proofs.Common.{◌≡◌, ℕ, zero, suc, ◌+◌, ◌<◌, Bool, true, false, cond, not, ◌&&◌, List, [], ◌∷◌, length, get_or, Some, None, Option, MatchOption, sym, refl, ap, ◌∙◌, inl, inr, add-one, arith}
-use Rattle.std.specs.List.{prefix_len, list_all, range_with_len, filter}
-use Rattle.std.proofs.lemmas.Bool.{cases_Bool, cases_lt, cond-true, cond-false, both_ways}
-use Rattle.frames.specs.Values.{Name}
-use Rattle.head.specs.Slots.{Slot, known, is_ack, named}
-use Rattle.head.specs.Queue.{Queue, first_not, past_last, all_unknown, acks, one_if, names_it, place_of}
+use Rattle.std.proofs.Common.{◌≡◌, ℕ, zero, suc, ◌+◌, ◌-◌, ◌<◌, Bool, true, false, cond, not, ◌&&◌, ◌||◌, ltb, List, [], ◌∷◌, length, get_or, take, reverse, Some, None, Option, MatchOption, sym, refl, ap, subst, ◌∙◌, inl, inr, add-one, arith}
+use Rattle.std.specs.List.{prefix_len, list_all, list_any, range_with_len, filter, filter_map}
+use Rattle.std.proofs.lemmas.Bool.{cases_Bool, cases_lt, cond-true, cond-false, both_ways, lt-ltb, le-ltb}
+use Rattle.std.proofs.lemmas.List.{get_or-reverse, get_or-take, length-reverse}
+use Rattle.frames.specs.Values.{Ack, Name}
+use Rattle.frames.specs.declared.types.Names.{Names}
+use Rattle.head.specs.Slots.{Slot, unknown, ack, bare, whole, known, is_ack, named}
+use Rattle.head.specs.Queue.{Queue, first_not, past_last, all_unknown, ack_at, acks, last_ack, one_if, or_else, names_it, place_of}
+use Rattle.head.specs.Tick.{busy}
 use Rattle.head.proofs.Walk.{acks_suc, acks_zero}
 use Rattle.store.specs.declared.types.Slot.{Slot as CSlot}
-use Rattle.store.specs.declared.types.Slot.TheVariants.{Unknown}
-use Rattle.store.specs.Parts.{slot_of, queue_of, stamp_at}
+use Rattle.store.specs.declared.types.Slot.TheVariants.{Unknown, Ack as CAck, Data}
+use Rattle.store.specs.Parts.{slot_of, names_at, queue_of, stamp_at}
+use Rattle.store.proofs.Looking.{busy_over, busy_nowhere, busy_here, busy_less, busy_before}
 use Rattle.store.proofs.View.{queue_at}
 use Rattle.store.proofs.Walks.{first_more, first_stop, first_end, past_hit, past_miss, past_none, place_hit, place_miss, place_none}
 
@@ -18,6 +22,10 @@ pub record Lists (q : Queue) (t : ℕ) (ss : List CSlot) : Type 0 where
 
 pub lists_all : (b : ℕ) (ss : List CSlot) → Lists (queue_of b ss) b ss
 lists_all b ss = record { at = λ k h. queue_at b ss k }
+
+-- a slot among the first of the list
+pub queue_front : (b : ℕ) (ss : List CSlot) (n i : ℕ) → i < n → queue_of b ss (b + i) ≡ slot_of (get_or (take n ss) i Unknown)
+queue_front b ss n i h = queue_at b ss i ∙ ap slot_of (sym (get_or-take n ss i Unknown h))
 
 lists_first : (q : Queue) (t : ℕ) (x : CSlot) (xs : List CSlot) → Lists q t (x ∷ xs) → q t ≡ slot_of x
 lists_first q t x xs l = let e : t ≡ t + 0 = omega arith in ap q e ∙ l.at 0 (omega arith)
@@ -87,3 +95,64 @@ module _ (q : Queue) (x : Name) where
   pub place_of_is : (k t : ℕ) (r : Option ℕ) → MatchOption r ((j : ℕ) → j < k → names_it x (named (q (t + j))) ≡ false) (λ i. (i < k) × (names_it x (named (q (t + i))) ≡ true) × ((j : ℕ) → j < i → names_it x (named (q (t + j))) ≡ false)) → stamp_at t r ≡ place_of q x k t
   place_of_is k t None h = place_of_none k t h
   place_of_is k t (Some i) h = place_of_at k t i h.0 h.1 h.2
+
+-- the last ACK, from what is at each place
+module _ (q : Queue) (t : ℕ) where
+  no_ack : (s : Slot) (u : ℕ) (o : Option Ack) → is_ack s ≡ false → or_else (ack_at s u) o ≡ o
+  no_ack unknown u o e = refl
+  no_ack (ack i ns) u o e = absurd (both_ways true e refl)
+  no_ack (bare x) u o e = refl
+  no_ack (whole m) u o e = refl
+
+  an_ack : (s : Slot) (u : ℕ) (o : Option Ack) → is_ack s ≡ true → or_else (ack_at s u) o ≡ ack_at s u
+  an_ack unknown u o e = absurd (both_ways true (sym e) refl)
+  an_ack (ack i ns) u o e = refl
+  an_ack (bare x) u o e = absurd (both_ways true (sym e) refl)
+  an_ack (whole m) u o e = absurd (both_ways true (sym e) refl)
+
+  pub last_ack_at : (k i : ℕ) → i < k → is_ack (q (t + i)) ≡ true → ((j : ℕ) → i < j → j < k → is_ack (q (t + j)) ≡ false) → last_ack q k t ≡ ack_at (q (t + i)) (t + i)
+  unfolding last_ack
+  last_ack_at zero i h e f = absurd (omega arith)
+  last_ack_at (suc k) i h e f = elim (cases_lt i k) [
+    | inl l ↦ no_ack (q (t + k)) (t + k) (last_ack q k t) (f k l (omega arith)) ∙ last_ack_at k i l e (λ j b c. f j b (omega arith))
+    | inr l ↦ let s : i ≡ k = omega arith in subst (λ n. or_else (ack_at (q (t + n)) (t + n)) (last_ack q k t) ≡ ack_at (q (t + i)) (t + i)) s (an_ack (q (t + i)) (t + i) (last_ack q k t) e)
+  ]
+
+  pub last_ack_none : (k : ℕ) → ((j : ℕ) → j < k → is_ack (q (t + j)) ≡ false) → last_ack q k t ≡ None
+  unfolding last_ack
+  last_ack_none zero f = refl
+  last_ack_none (suc k) f = no_ack (q (t + k)) (t + k) (last_ack q k t) (f k (omega arith)) ∙ last_ack_none k (λ j b. f j (omega arith))
+
+-- from the stamp t on stand the slots of the list, the last one first
+pub record ListsBack (q : Queue) (t : ℕ) (zs : List CSlot) : Type 0 where
+  pub at : (k : ℕ) → k < length zs → q (t + (length zs - 1 - k)) ≡ slot_of (get_or zs k Unknown)
+
+-- whether one of the last n ACKs has a name
+pub busy_list : (q : Queue) (t : ℕ) (zs : List CSlot) (n : ℕ) → ListsBack q t zs → list_any (λ (ns : Names). ltb 0 ns.count) (take n (filter_map names_at zs)) ≡ busy q (length zs) t n
+busy_list q t [] zero l = sym (busy_over q 0 t)
+busy_list q t [] (suc n) l = sym (busy_nowhere q t (suc n))
+busy_list q t (z ∷ zs) zero l = sym (busy_over q (length (z ∷ zs)) t)
+busy_list q t (z ∷ zs) (suc n) l = go z last (λ m. busy_list q t zs m rest)
+  where
+    rest : ListsBack q t zs
+    rest = record { at = λ k h. let e : t + (length zs - 1 - k) ≡ t + (length (z ∷ zs) - 1 - suc k) = omega arith in ap q e ∙ l.at (suc k) (omega arith) }
+
+    last : q (t + length zs) ≡ slot_of z
+    last = let e : t + length zs ≡ t + (length (z ∷ zs) - 1 - 0) = omega arith in ap q e ∙ l.at 0 (omega arith)
+
+    go : (x : CSlot) → q (t + length zs) ≡ slot_of x → ((m : ℕ) → list_any (λ (ns : Names). ltb 0 ns.count) (take m (filter_map names_at zs)) ≡ busy q (length zs) t m) → list_any (λ (ns : Names). ltb 0 ns.count) (take (suc n) (filter_map names_at (x ∷ zs))) ≡ busy q (length (z ∷ zs)) t (suc n)
+    go Unknown e r = r (suc n) ∙ busy_before q (length (z ∷ zs)) (length zs) t (suc n) n (omega arith) (omega arith) (ap is_ack e)
+    go (CAck i ns) e r = elim (cases_lt 0 ns.count) [
+      | inl h ↦ ap (λ b. b || list_any (λ (ms : Names). ltb 0 ms.count) (take n (filter_map names_at zs))) (lt-ltb 0 ns.count h) ∙ busy_here q (length (z ∷ zs)) (length zs) t (suc n) n (omega arith) (omega arith) i ns e h
+      | inr h ↦
+          ap (λ b. b || list_any (λ (ms : Names). ltb 0 ms.count) (take n (filter_map names_at zs))) (le-ltb 0 ns.count h)
+          ∙ (r n ∙ busy_less q (length (z ∷ zs)) (length zs) t (suc n) n (omega arith) (omega arith) i ns e h)
+    ]
+    go (Data x None) e r = r (suc n) ∙ busy_before q (length (z ∷ zs)) (length zs) t (suc n) n (omega arith) (omega arith) (ap is_ack e)
+    go (Data x (Some b)) e r = r (suc n) ∙ busy_before q (length (z ∷ zs)) (length zs) t (suc n) n (omega arith) (omega arith) (ap is_ack e)
+
+pub lists_back : (b : ℕ) (ss : List CSlot) → ListsBack (queue_of b ss) b (reverse ss)
+lists_back b ss = record { at = λ k h.
+    let l : length (reverse ss) ≡ length ss = length-reverse ss in
+    let e : b + (length (reverse ss) - 1 - k) ≡ b + (length ss - 1 - k) = omega arith in
+    ap (queue_of b ss) e ∙ (queue_at b ss (length ss - 1 - k) ∙ ap slot_of (sym (get_or-reverse ss k Unknown (omega arith)))) }

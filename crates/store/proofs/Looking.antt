@@ -1,5 +1,5 @@
 -- The steps of what is read off a queue, and of the frames that are put.
-use Rattle.std.proofs.Common.{◌≡◌, ℕ, zero, suc, ◌+◌, ◌%◌, ◌^◌, ◌<◌, ◌≤◌, min, true, false, cond, not, ◌||◌, eqb, leb, List, [], ◌∷◌, ◌++◌, map, length, get_or, take, set, Some, None, Option, sym, refl, ap, ◌∙◌, arith, pow_mono}
+use Rattle.std.proofs.Common.{◌≡◌, ℕ, zero, suc, ◌+◌, ◌%◌, ◌^◌, ◌<◌, ◌≤◌, min, true, false, cond, not, ◌||◌, eqb, leb, List, [], ◌∷◌, ◌++◌, map, length, take, set, Some, None, Option, sym, refl, ap, ◌∙◌, arith, pow_mono}
 use Rattle.std.proofs.lemmas.List.{length-map, length-take-le, map-append, take_more_set}
 use Rattle.std.proofs.lemmas.Bool.{le-leb, lt-leb, eq-eqb, ne_eqb, cond-true, cond-false}
 use Rattle.frames.specs.declared.types.Frame.{Frame as CFrame}
@@ -11,27 +11,8 @@ use Rattle.head.specs.Head.{Head, top}
 use Rattle.head.specs.Slots.{Slot, unknown, ack, bare, whole, is_ack}
 use Rattle.head.specs.Queue.{Queue, ack_at, or_else, last_ack}
 use Rattle.head.specs.Tick.{another, asked, busy, issuer_or}
-use Rattle.store.specs.declared.types.Slot.{Slot as CSlot}
-use Rattle.store.specs.declared.types.Slot.TheVariants.{Unknown, Ack as CAck, Data}
-use Rattle.store.specs.declared.types.Queue.{Queue as CQueue}
 use Rattle.store.specs.declared.types.Frames.{Frames}
-use Rattle.store.specs.Parts.{slot_of, queue_of}
 use Rattle.store.specs.Puts.{puts_of}
-use Rattle.store.proofs.View.{queue_read}
-
--- the slot at a stamp
-
-pub ack_read : (q : CQueue) (i g : ℕ) (ns : Names) (z : CSlot) → i < 96 → get_or q.slots i z ≡ CAck g ns → queue_of q.base q.slots (q.base + i) ≡ ack g (names_of ns)
-ack_read q i g ns z h e = let f = q.places in queue_read q.base q.slots i z (omega arith) ∙ ap slot_of e
-
-other_slot : (x : CSlot) → ((g : ℕ) (ns : Names) → x ≡ CAck g ns → ⊥) → is_ack (slot_of x) ≡ false
-other_slot Unknown h = refl
-other_slot (CAck g ns) h = absurd (h g ns refl)
-other_slot (Data x None) h = refl
-other_slot (Data x (Some b)) h = refl
-
-pub other_read : (q : CQueue) (i : ℕ) (z : CSlot) → i < 96 → ((g : ℕ) (ns : Names) → get_or q.slots i z ≡ CAck g ns → ⊥) → is_ack (queue_of q.base q.slots (q.base + i)) ≡ false
-other_read q i z h e = let f = q.places in ap is_ack (queue_read q.base q.slots i z (omega arith)) ∙ other_slot (get_or q.slots i z) e
 
 -- an ACK, or something else, at the last of k stamps
 

@@ -1,7 +1,7 @@
 -- The laws of the model of a head: reading, setting, shifting.
-use Rattle.std.proofs.Common.{◌≡◌, ℕ, zero, suc, ◌+◌, ◌-◌, ◌<◌, ◌≤◌, Bool, true, false, cond, ◌&&◌, eqb, ltb, leb, List, ◌++◌, length, get_or, drop, set, replicate, Some, None, Option, sym, refl, ap, ◌∙◌, subst, inl, inr, arith, get_or-set_other, get_or-set_same}
+use Rattle.std.proofs.Common.{◌≡◌, ℕ, zero, suc, ◌+◌, ◌-◌, ◌<◌, ◌≤◌, Bool, true, false, cond, ◌&&◌, eqb, ltb, leb, List, ◌++◌, length, get_or, take, drop, set, replicate, Some, None, Option, sym, refl, ap, ◌∙◌, subst, inl, inr, arith, get_or-set_other, get_or-set_same}
 use mathlib.Core.Path.{fun_ext}
-use Rattle.std.proofs.lemmas.List.{get_or_past, get_or-drop, get_or_default, length-drop, get_or_append_left, get_or-append_right, get_or-replicate, length-replicate}
+use Rattle.std.proofs.lemmas.List.{get_or_past, get_or-drop, get_or-take, get_or_default, length-drop, get_or_append_left, get_or-append_right, get_or-replicate, length-replicate}
 use Rattle.std.proofs.lemmas.Bool.{cases_lt, cases_eq, eq-eqb, eqb-true, ne_eqb, le-leb, lt-leb, lt-ltb, le-ltb, cond-true, cond-false}
 use Rattle.frames.specs.declared.types.Name.{Name as CName}
 use Rattle.frames.specs.declared.types.Names.{Names}
@@ -47,6 +47,12 @@ queue_read b ss i z h = queue_at b ss i ∙ ap slot_of (get_or_default ss i Unkn
 -- an element that a loop or an index has read
 pub queue_item : (b : ℕ) (ss : List CSlot) (i : ℕ) (x : CSlot) → i < length ss → x ≡ get_or ss i x → queue_of b ss (b + i) ≡ slot_of x
 queue_item b ss i x h e = queue_read b ss i x h ∙ ap slot_of (sym e)
+
+-- an element that a loop over the slots from the stamp t on has read
+pub queue_rest : (b : ℕ) (ss : List CSlot) (t n i : ℕ) (x : CSlot) → b ≤ t → i < n → t - b + i < length ss → x ≡ get_or (take n (drop (t - b) ss)) i x → queue_of b ss (t + i) ≡ slot_of x
+queue_rest b ss t n i x h m l e =
+    queue_in b ss (t + i) (t - b + i) (omega arith)
+    ∙ ap slot_of (sym (e ∙ (get_or-take n (drop (t - b) ss) i x m ∙ (get_or-drop (t - b) ss i x ∙ get_or_default ss (t - b + i) x Unknown l))))
 
 -- setting
 pub queue_set : (b : ℕ) (ss : List CSlot) (i : ℕ) (x : CSlot) → i < length ss → queue_of b (set ss i x) ≡ (λ s. cond (eqb s (b + i)) (slot_of x) (queue_of b ss s))

@@ -27,6 +27,12 @@ slot_of Unknown = unknown
 slot_of (CAck i ns) = ack i (names_of ns)
 slot_of (Data x b) = data_of x b
 
+-- the names of an ACK
+abbrev pub names_at : CSlot → Option Names
+names_at Unknown = None
+names_at (CAck i ns) = Some ns
+names_at (Data x b) = None
+
 -- what is pending at a place of a window
 abbrev pub kept_of : Option CKept → Option Kept
 kept_of None = None

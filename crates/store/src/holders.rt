@@ -18,25 +18,10 @@ impl Queue {
         ensures passed { Passed self.now due → Passed self.now result }
         ensures bound { Ends self.now → due ≤ 1000001 → result ≤ 1000001 }
     {
-        let mut stamp = due;
-        while self.at(stamp as u64).is_ack() {
-            stamp += 1;
-        }
-        stamp
-    }
-
-    // The stamp of the last ACK among the first places. Past the queue there is none, so the k stamps may be more than the places.
-    fn last_ack(&self, count: u32) -> Option<u32>
-        requires { count ≤ 96 }
-        ensures value { (k : ℕ) → count ≡ min k 96 → result ≡ stamp_of (m_last_ack (queue_of self.now.base self.now.slots) k self.now.base) }
-        ensures bound { MatchOption result (⊥ → ⊥) (λ t. (self.now.base ≤ t) × (t < self.now.base + count)) }
-    {
-        for i in (0..count).rev() {
-            if self.slots[i as usize].is_ack() {
-                return Some(self.base + i);
-            }
-        }
-        None
+        let end = self.base + 96;
+        (due..end)
+            .find(|stamp| !self.at(*stamp as u64).is_ack())
+            .unwrap_or(due.max(end))
     }
 
     // The stamp of the ACK that ordered the slot at a stamp: the last at or before it.
@@ -45,18 +30,17 @@ impl Queue {
         ensures bound { MatchOption result (⊥ → ⊥) (λ t. (self.now.base ≤ t) × (t ≤ stamp) × (t < self.now.base + 96)) }
     {
         let count = (stamp as u64 + 1).saturating_sub(self.base as u64).min(96);
-        self.last_ack(count as u32)
+        self.last_ack(count as usize).map(|ack| ack.stamp)
     }
 
     // Which heads issued a known ACK from a stamp on.
     fn issuers_from(&self, stamp: u32) -> [bool; 8]
-        requires { self.now.base ≤ stamp }
+        requires { (self.now.base ≤ stamp) × (stamp ≤ self.now.base + 96) }
         ensures { Tells result (issuers (queue_of self.now.base self.now.slots) (self.now.base + 96 - stamp) stamp) }
     {
         let mut issued = [false; 8];
-        for i in (stamp - self.base) as usize..96 {
-            let slot = self.slots[i];
-            if let Slot::Ack { issuer, .. } = slot {
+        for slot in &self.slots[(stamp - self.base) as usize..] {
+            if let Slot::Ack { issuer, .. } = *slot {
                 if issuer < 8 {
                     issued[issuer as usize] = true;
                 }
@@ -84,11 +68,7 @@ fn others(issued: [bool; 8], size: RingSize, me: u8) -> u8
     ensures bound { result ≤ size.heads }
     ensures fewer { me < size.heads → result < size.heads }
 {
-    let mut count = 0;
-    for head in 0..size.heads {
-        if head != me && issued[head as usize] {
-            count += 1;
-        }
-    }
-    count
+    (0..size.heads)
+        .filter(|head| *head != me && issued[*head as usize])
+        .count() as u8
 }

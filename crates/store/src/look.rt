@@ -1,13 +1,13 @@
 // What a head reads off its queue: the top ACK, whether there was traffic, the frame of a slot; and whom and when it asks.
-ghost use Rattle.std.specs.Prelude.{◌≡◌, ◌<◌, ◌≤◌};
+ghost use Rattle.std.specs.Prelude.{◌≡◌, ℕ, ◌+◌, ◌<◌, ◌≤◌, min, MatchOption};
 ghost use Rattle.frames.specs.Types.{asked_of, frame_of};
 ghost use Rattle.frames.specs.Values.{ack_frame};
 ghost use Rattle.head.specs.Head.{Head, top as m_top};
 ghost use Rattle.head.specs.Hear.{frames_of};
-ghost use Rattle.head.specs.Queue.{last_ack};
+ghost use Rattle.head.specs.Queue.{ack_at, last_ack as m_last_ack};
 ghost use Rattle.head.specs.Tick.{another as m_another, asked as m_asked, busy, issuer_or, wait as m_wait};
 ghost use Rattle.store.specs.Look.{put_of, top_of};
-ghost use Rattle.store.specs.Parts.{ack_of, queue_of, slot_of};
+ghost use Rattle.store.specs.Parts.{ack_of, names_at, queue_of, slot_of};
 
 use crate::types::{Queue, Slot};
 use frames::types::{Frame, Names, RingSize, To};
@@ -40,55 +40,74 @@ impl Slot {
     {
         match self {
             Slot::Unknown => None,
-            Slot::Ack { issuer, names } => Some(Frame::Ack {
+            Slot::Ack { issuer, names } => {
+                let ack = Top {
+                    stamp,
+                    issuer,
+                    names,
+                };
+                Some(ack.frame())
+            }
+            Slot::Data { name, body } => body.map(|body| Frame::Data { name, body }),
+        }
+    }
+
+    // The ACK that stands here, under the stamp of the slot.
+    fn ack(self, stamp: u32) -> Option<Top>
+        ensures { top_of result ≡ ack_at (slot_of self) stamp }
+    {
+        match self {
+            Slot::Ack { issuer, names } => Some(Top {
                 stamp,
                 issuer,
                 names,
             }),
-            Slot::Data { name, body } => match body {
-                None => None,
-                Some(body) => Some(Frame::Data { name, body }),
-            },
+            _ => None,
+        }
+    }
+
+    // The names of an ACK.
+    fn names(&self) -> Option<Names>
+        ensures { result ≡ names_at self.now }
+    {
+        match *self {
+            Slot::Ack { names, .. } => Some(names),
+            _ => None,
         }
     }
 }
 
 impl Queue {
+    // The last ACK among the first places. Past the queue there is none, so the k stamps may be more than the places.
+    pub(crate) fn last_ack(&self, count: usize) -> Option<Top>
+        requires { count ≤ 96 }
+        ensures value { (k : ℕ) → count ≡ min k 96 → top_of result ≡ m_last_ack (queue_of self.now.base self.now.slots) k self.now.base }
+        ensures bound { MatchOption result (⊥ → ⊥) (λ a. (self.now.base ≤ a.stamp) × (a.stamp < self.now.base + count)) }
+    {
+        let slots = &self.slots[..count];
+        match slots.iter().rposition(|slot| slot.is_ack()) {
+            Some(place) => slots[place].ack(self.base + place as u32),
+            None => None,
+        }
+    }
+
     // The known ACK with the highest stamp, if there is one.
     pub fn top(&self) -> Option<Top>
-        ensures { top_of result ≡ last_ack (queue_of self.now.base self.now.slots) 96 self.now.base }
+        ensures { top_of result ≡ m_last_ack (queue_of self.now.base self.now.slots) 96 self.now.base }
     {
-        for i in (0..96u32).rev() {
-            let slot = self.slots[i as usize];
-            if let Slot::Ack { issuer, names } = slot {
-                return Some(Top {
-                    stamp: self.base + i,
-                    issuer,
-                    names,
-                });
-            }
-        }
-        None
+        self.last_ack(96)
     }
 
     // Whether one of the last n known ACKs has a name.
     pub fn is_busy(&self, n: u8) -> bool
         ensures { result ≡ busy (queue_of self.now.base self.now.slots) 96 self.now.base n }
     {
-        let mut left = n;
-        for i in (0..96usize).rev() {
-            if left == 0 {
-                return false;
-            }
-            let slot = self.slots[i];
-            if let Slot::Ack { names, .. } = slot {
-                if names.count > 0 {
-                    return true;
-                }
-                left -= 1;
-            }
-        }
-        false
+        self.slots
+            .iter()
+            .rev()
+            .filter_map(|slot| slot.names())
+            .take(n as usize)
+            .any(|names| names.count > 0)
     }
 
     // The frame of the slot at a stamp, where it is full.

@@ -1,30 +1,15 @@
-use Rattle.std.proofs.Common.{sym, refl, ap, ◌∙◌, arith}
-use Rattle.head.specs.Deliver.{others}
-use Rattle.store.proofs.Holding.{others_none, others_one, others_me, others_not}
+use Rattle.std.proofs.Common.{◌≡◌, length, ◌∙◌, arith, rules, tests}
+use Rattle.std.specs.List.{filter, range_with_len}
+use Rattle.std.proofs.lemmas.Iterator.{YieldsList-from_range}
+use Rattle.std.proofs.lemmas.Iterator.Consumers.{count_from_yields_List, YieldsList-from_filter}
+use Rattle.store.proofs.Holding.{other, others_list, others_fewer}
 use Rattle.store.proofs.holders.others.Goals as goal
-use Rattle.store.proofs.holders.others.Goals.{then-head-me+then-issued-head, else-head-me, else-head-me-via-then-head-me+else-issued-head, else-head-me-via-else-head-me}
 
-pub loop-head-init : goal.loop-head-init
-loop-head-init c = (λ n e l is t. sym (ap (λ k. others k c.args.me is) e ∙ others_none 0 c.args.me is), omega arith, λ h. absurd (omega arith))
+counted : (c : goal.After-count) → c.count.result ≡ length (filter (other c.args.me c.args.issued) (range_with_len 0 c.args.size.heads))
+counted c = count_from_yields_List _ _ c.count.ensures.ran (YieldsList-from_filter _ (other c.args.me c.args.issued) (YieldsList-from_range 0 c.args.size.heads c.args.size.heads (cc) (omega arith)) c.filter.ensures.closure (λ x b q k. search (rules, tests)))
 
-pub loop-head-preserved : goal.loop-head-preserved
-loop-head-preserved c =
-    let g = c.loop-head.head in
-    let me = c.args.me in
-    let v = c.loop-head.invariant in
-    elim c.if-head-me.branch [
-      | then-head-me+then-issued-head w ↦
-          let k = w.count-is in
-          let ne = w.if-head-me.true in
-          (λ n e l is t. omega (arith, v.0 g refl (omega arith) is t, ap (λ k. others k me is) e, others_one g me is ne (sym (t g (omega arith)) ∙ w.if-issued-head.true)), omega arith, λ h. omega arith)
-      | else-head-me w ↦
-          let k = w.count-is in
-          elim w.else-head-me.branch [
-            | else-head-me-via-then-head-me+else-issued-head u ↦
-                let ne = u.if-head-me.true in
-                (λ n e l is t. omega (arith, v.0 g refl (omega arith) is t, ap (λ k. others k me is) e, others_not g me is (sym (t g (omega arith)) ∙ u.if-issued-head.false)), omega arith, λ h. omega arith)
-            | else-head-me-via-else-head-me u ↦
-                let f = u.if-head-me.false in
-                (λ n e l is t. omega (arith, v.0 g refl (omega arith) is t, ap (λ k. others k me is) e, others_me g me is f), omega arith, λ h. omega arith)
-          ]
-    ]
+pub returns-clause-value : goal.returns-clause-value
+returns-clause-value c is t = counted c ∙ others_list c.args.me c.args.issued c.args.size.heads is (omega arith) t
+
+pub returns-clause-fewer : goal.returns-clause-fewer
+returns-clause-fewer c h = omega (arith, counted c, others_fewer c.args.me c.args.issued c.args.size.heads h)

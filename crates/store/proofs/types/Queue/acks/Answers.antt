@@ -1,9 +1,7 @@
-use Rattle.std.proofs.Common.{◌≡◌, ℕ, ap, ◌∙◌, arith, rules, tests, sym}
-use Rattle.std.specs.List.{count_by}
+use Rattle.std.proofs.Common.{◌∙◌, rules, tests, sym}
 use Rattle.std.proofs.lemmas.Iterator.{YieldsList-from_slice}
 use Rattle.std.proofs.lemmas.Iterator.Consumers.{count_from_yields_List, YieldsList-from_filter}
 use Rattle.head.specs.Slots.{is_ack}
-use Rattle.head.specs.Queue.{Queue}
 use Rattle.store.specs.Parts.{queue_of, slot_of}
 use Rattle.store.proofs.Listed.{acks_list, lists_all}
 use Rattle.store.proofs.types.Queue.acks.Goals as goal

@@ -1,7 +1,6 @@
-use Rattle.std.proofs.Common.{◌≡◌, ℕ, suc, ◌+◌, ◌<◌, true, false, get_or, MatchOption, ap, ◌∙◌, arith, rules, tests, sym}
+use Rattle.std.proofs.Common.{◌≡◌, ℕ, suc, ◌+◌, ◌<◌, true, false, get_or, ap, ◌∙◌, arith, rules, sym}
 use Rattle.std.proofs.iter.runs.Made.{chains}
 use Rattle.head.specs.Slots.{known}
-use Rattle.head.specs.Queue.{Queue, past_last}
 use Rattle.store.specs.Parts.{queue_of, slot_of}
 use Rattle.store.specs.declared.types.Slot.TheVariants.{Unknown}
 use Rattle.store.proofs.View.{queue_at}

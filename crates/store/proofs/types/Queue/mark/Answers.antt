@@ -1,11 +1,10 @@
-use Rattle.std.proofs.Common.{◌≡◌, ℕ, ◌+◌, ap, ◌∙◌, arith, rules, tests, sym}
+use Rattle.std.proofs.Common.{◌≡◌, ◌+◌, ap, ◌∙◌, rules, tests, sym}
 use Rattle.std.specs.List.{prefix_len}
 use Rattle.std.proofs.lemmas.Iterator.{YieldsList-from_slice}
 use Rattle.std.proofs.lemmas.Iterator.Search.{YieldsList-from_take_while}
 use Rattle.std.proofs.lemmas.Iterator.Consumers.{count_from_yields_List}
 use Rattle.std.proofs.lemmas.List.Folds.{length-prefix_len}
 use Rattle.head.specs.Slots.{full}
-use Rattle.head.specs.Queue.{Queue, first_not}
 use Rattle.store.specs.Parts.{queue_of, slot_of}
 use Rattle.store.proofs.Listed.{first_not_list, lists_all}
 use Rattle.store.proofs.types.Queue.mark.Goals as goal
