@@ -1,10 +1,11 @@
 -- A queue as the list of its slots: what a walk over the queue finds is what the list's own words say.
-use Rattle.std.proofs.Common.{◌≡◌, ℕ, zero, suc, ◌+◌, ◌-◌, ◌<◌, Bool, true, false, cond, not, ◌&&◌, ◌||◌, ltb, List, [], ◌∷◌, length, get_or, take, reverse, Some, None, Option, MatchOption, sym, refl, ap, subst, ◌∙◌, inl, inr, add-one, arith}
+use Rattle.std.proofs.Common.{◌≡◌, ℕ, zero, suc, ◌+◌, ◌-◌, ◌<◌, ◌≤◌, Bool, true, false, cond, not, ◌&&◌, ◌||◌, ltb, List, [], ◌∷◌, length, get_or, take, reverse, Some, None, Option, MatchOption, sym, refl, ap, subst, ◌∙◌, inl, inr, add-one, arith}
 use Rattle.std.specs.List.{prefix_len, list_all, list_any, range_with_len, filter, filter_map}
 use Rattle.std.proofs.lemmas.Bool.{cases_Bool, cases_lt, cond-true, cond-false, both_ways, lt-ltb, le-ltb}
-use Rattle.std.proofs.lemmas.List.{get_or-reverse, get_or-take, length-reverse}
+use Rattle.std.proofs.lemmas.List.{get_or-reverse, length-reverse}
 use Rattle.frames.specs.Values.{Ack, Name}
-use Rattle.frames.specs.declared.types.Names.{Names}
+use Rattle.frames.specs.declared.table.Table.{Table}
+use Rattle.frames.specs.declared.types.Name.{Name as CName}
 use Rattle.head.specs.Slots.{Slot, unknown, ack, bare, whole, known, is_ack, named}
 use Rattle.head.specs.Queue.{Queue, first_not, past_last, all_unknown, ack_at, acks, last_ack, one_if, or_else, names_it, place_of}
 use Rattle.head.specs.Tick.{busy}
@@ -22,10 +23,6 @@ pub record Lists (q : Queue) (t : ℕ) (ss : List CSlot) : Type 0 where
 
 pub lists_all : (b : ℕ) (ss : List CSlot) → Lists (queue_of b ss) b ss
 lists_all b ss = record { at = λ k h. queue_at b ss k }
-
--- a slot among the first of the list
-pub queue_front : (b : ℕ) (ss : List CSlot) (n i : ℕ) → i < n → queue_of b ss (b + i) ≡ slot_of (get_or (take n ss) i Unknown)
-queue_front b ss n i h = queue_at b ss i ∙ ap slot_of (sym (get_or-take n ss i Unknown h))
 
 lists_first : (q : Queue) (t : ℕ) (x : CSlot) (xs : List CSlot) → Lists q t (x ∷ xs) → q t ≡ slot_of x
 lists_first q t x xs l = let e : t ≡ t + 0 = omega arith in ap q e ∙ l.at 0 (omega arith)
@@ -64,6 +61,16 @@ pub all_unknown_list : (q : Queue) (k t : ℕ) → list_all (λ s. not (known (q
 unfolding all_unknown
 all_unknown_list q zero t = refl
 all_unknown_list q (suc k) t = rw add-one (ap (λ b. not (known (q t)) && b) (all_unknown_list q k (suc t)))
+
+-- fewer stamps will do, where all after them are unknown
+pub all_unknown_past : (q : Queue) (j k t : ℕ) → j ≤ k → (j < k → (u : ℕ) → t + j ≤ u → known (q u) ≡ false) → all_unknown q j t ≡ all_unknown q k t
+unfolding all_unknown
+all_unknown_past q zero zero t h f = refl
+all_unknown_past q zero (suc k) t h f =
+    all_unknown_past q zero k (suc t) (omega arith) (λ _ u a. f (omega arith) u (omega arith))
+    ∙ ap (λ b. not b && all_unknown q k (suc t)) (sym (f (omega arith) t (omega arith)))
+all_unknown_past q (suc j) zero t h f = absurd (omega arith)
+all_unknown_past q (suc j) (suc k) t h f = ap (λ b. not (known (q t)) && b) (all_unknown_past q j k (suc t) (omega arith) (λ l u a. f (omega arith) u (omega arith)))
 
 pub acks_list : (q : Queue) (t : ℕ) (ss : List CSlot) → Lists q t ss → acks q (length ss) t ≡ length (filter (λ s. is_ack (slot_of s)) ss)
 acks_list q t [] l = acks_zero q t
@@ -128,7 +135,7 @@ pub record ListsBack (q : Queue) (t : ℕ) (zs : List CSlot) : Type 0 where
   pub at : (k : ℕ) → k < length zs → q (t + (length zs - 1 - k)) ≡ slot_of (get_or zs k Unknown)
 
 -- whether one of the last n ACKs has a name
-pub busy_list : (q : Queue) (t : ℕ) (zs : List CSlot) (n : ℕ) → ListsBack q t zs → list_any (λ (ns : Names). ltb 0 ns.count) (take n (filter_map names_at zs)) ≡ busy q (length zs) t n
+pub busy_list : (q : Queue) (t : ℕ) (zs : List CSlot) (n : ℕ) → ListsBack q t zs → list_any (λ (ns : Table CName 4). ltb 0 ns.count) (take n (filter_map names_at zs)) ≡ busy q (length zs) t n
 busy_list q t [] zero l = sym (busy_over q 0 t)
 busy_list q t [] (suc n) l = sym (busy_nowhere q t (suc n))
 busy_list q t (z ∷ zs) zero l = sym (busy_over q (length (z ∷ zs)) t)
@@ -140,19 +147,21 @@ busy_list q t (z ∷ zs) (suc n) l = go z last (λ m. busy_list q t zs m rest)
     last : q (t + length zs) ≡ slot_of z
     last = let e : t + length zs ≡ t + (length (z ∷ zs) - 1 - 0) = omega arith in ap q e ∙ l.at 0 (omega arith)
 
-    go : (x : CSlot) → q (t + length zs) ≡ slot_of x → ((m : ℕ) → list_any (λ (ns : Names). ltb 0 ns.count) (take m (filter_map names_at zs)) ≡ busy q (length zs) t m) → list_any (λ (ns : Names). ltb 0 ns.count) (take (suc n) (filter_map names_at (x ∷ zs))) ≡ busy q (length (z ∷ zs)) t (suc n)
+    go : (x : CSlot) → q (t + length zs) ≡ slot_of x → ((m : ℕ) → list_any (λ (ns : Table CName 4). ltb 0 ns.count) (take m (filter_map names_at zs)) ≡ busy q (length zs) t m) → list_any (λ (ns : Table CName 4). ltb 0 ns.count) (take (suc n) (filter_map names_at (x ∷ zs))) ≡ busy q (length (z ∷ zs)) t (suc n)
     go Unknown e r = r (suc n) ∙ busy_before q (length (z ∷ zs)) (length zs) t (suc n) n (omega arith) (omega arith) (ap is_ack e)
     go (CAck i ns) e r = elim (cases_lt 0 ns.count) [
-      | inl h ↦ ap (λ b. b || list_any (λ (ms : Names). ltb 0 ms.count) (take n (filter_map names_at zs))) (lt-ltb 0 ns.count h) ∙ busy_here q (length (z ∷ zs)) (length zs) t (suc n) n (omega arith) (omega arith) i ns e h
+      | inl h ↦ ap (λ b. b || list_any (λ (ms : Table CName 4). ltb 0 ms.count) (take n (filter_map names_at zs))) (lt-ltb 0 ns.count h) ∙ busy_here q (length (z ∷ zs)) (length zs) t (suc n) n (omega arith) (omega arith) i ns e h
       | inr h ↦
-          ap (λ b. b || list_any (λ (ms : Names). ltb 0 ms.count) (take n (filter_map names_at zs))) (le-ltb 0 ns.count h)
+          ap (λ b. b || list_any (λ (ms : Table CName 4). ltb 0 ms.count) (take n (filter_map names_at zs))) (le-ltb 0 ns.count h)
           ∙ (r n ∙ busy_less q (length (z ∷ zs)) (length zs) t (suc n) n (omega arith) (omega arith) i ns e h)
     ]
     go (Data x None) e r = r (suc n) ∙ busy_before q (length (z ∷ zs)) (length zs) t (suc n) n (omega arith) (omega arith) (ap is_ack e)
     go (Data x (Some b)) e r = r (suc n) ∙ busy_before q (length (z ∷ zs)) (length zs) t (suc n) n (omega arith) (omega arith) (ap is_ack e)
 
 pub lists_back : (b : ℕ) (ss : List CSlot) → ListsBack (queue_of b ss) b (reverse ss)
-lists_back b ss = record { at = λ k h.
-    let l : length (reverse ss) ≡ length ss = length-reverse ss in
-    let e : b + (length (reverse ss) - 1 - k) ≡ b + (length ss - 1 - k) = omega arith in
-    ap (queue_of b ss) e ∙ (queue_at b ss (length ss - 1 - k) ∙ ap slot_of (sym (get_or-reverse ss k Unknown (omega arith)))) }
+lists_back b ss = record {
+  at = λ k h.
+      let l : length (reverse ss) ≡ length ss = length-reverse ss in
+      let e : b + (length (reverse ss) - 1 - k) ≡ b + (length ss - 1 - k) = omega arith in
+      ap (queue_of b ss) e ∙ (queue_at b ss (length ss - 1 - k) ∙ ap slot_of (sym (get_or-reverse ss k Unknown (omega arith))));
+}

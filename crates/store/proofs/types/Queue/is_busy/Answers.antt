@@ -4,7 +4,8 @@ use Rattle.std.proofs.lemmas.Iterator.Adapters.{YieldsList-from_rev_slice}
 use Rattle.std.proofs.lemmas.Iterator.Consumers.{YieldsList-from_filter_map}
 use Rattle.std.proofs.lemmas.Iterator.Search.{any_from_yields_List}
 use Rattle.std.proofs.lemmas.List.{length-reverse}
-use Rattle.frames.specs.declared.types.Names.{Names}
+use Rattle.frames.specs.declared.table.Table.{Table}
+use Rattle.frames.specs.declared.types.Name.{Name as CName}
 use Rattle.head.specs.Queue.{Queue}
 use Rattle.head.specs.Tick.{busy}
 use Rattle.store.specs.Parts.{names_at, queue_of}
@@ -15,6 +16,6 @@ pub returns : goal.returns
 returns c =
     let s = c.args.self.now in
     let q : Queue = queue_of s.base s.slots in
-    any_from_yields_List (λ (ns : Names). ltb 0 ns.count) _ _ _ c.any.ensures.ran
+    any_from_yields_List (λ (ns : Table CName 4). ltb 0 ns.count) _ _ _ c.any.ensures.ran
     (YieldsList-from_take c.args.n (YieldsList-from_filter_map _ names_at (YieldsList-from_rev_slice s.slots (cc)) c.filter_map.ensures.closure (λ x r q k. search (rules, tests))) c.take.ensures.count) (λ x b q k. search (rules, tests))
     ∙ (busy_list q s.base (reverse s.slots) c.args.n (lists_back s.base s.slots) ∙ ap (λ k. busy q k s.base c.args.n) (length-reverse s.slots ∙ s.places))

@@ -6,7 +6,8 @@ use Rattle.head.specs.Queue.{Queue, ack_at}
 use Rattle.store.specs.declared.types.Slot.TheVariants.{Unknown}
 use Rattle.store.specs.Parts.{queue_of, slot_of}
 use Rattle.store.proofs.Holding.{last_upto}
-use Rattle.store.proofs.Listed.{last_ack_at, last_ack_none, queue_front}
+use Rattle.store.proofs.Listed.{last_ack_at, last_ack_none}
+use Rattle.store.proofs.View.{queue_front}
 use Rattle.store.proofs.types.Queue.last_ack.Goals as goal
 
 pub returns-in-None-clause-value : goal.returns-in-None-clause-value
@@ -15,7 +16,7 @@ returns-in-None-clause-value c = λ k e.
     let m = c.args.count in
     let n : length (take m s.slots) ≡ m = length-take-le m s.slots (omega arith) in
     let f : (j : ℕ) → j < m → is_ack (slot_of (get_or (take m s.slots) j Unknown)) ≡ false = search (rules, chains) in
-    sym (last_ack_none (queue_of s.base s.slots) s.base m (λ j b. ap is_ack (queue_front s.base s.slots m j b) ∙ f j b)) ∙ last_upto s m k e
+    sym (last_ack_none (queue_of s.base s.slots) s.base m (λ j b. ap is_ack (queue_front s.base s.slots m j Unknown b (omega arith)) ∙ f j b)) ∙ last_upto s m k e
 
 pub returns-in-Some-clause-value : goal.returns-in-Some-clause-value
 returns-in-Some-clause-value c = λ k e.
@@ -29,5 +30,5 @@ returns-in-Some-clause-value c = λ k e.
     let h : (j : ℕ) → i < j → j < m → is_ack (slot_of (get_or (take m s.slots) j Unknown)) ≡ false = search (rules, chains) in
     let g : c.index-slots-place.result ≡ get_or (take m s.slots) i Unknown = search (rules, chains) in
     c.ack.ensures
-    ∙ (ap (λ x. ack_at x (s.base + i)) (ap slot_of g ∙ sym (queue_front s.base s.slots m i b))
-    ∙ (sym (last_ack_at q s.base m i b (ap is_ack (queue_front s.base s.slots m i b) ∙ f) (λ j a d. ap is_ack (queue_front s.base s.slots m j d) ∙ h j a d)) ∙ last_upto s m k e))
+    ∙ (ap (λ x. ack_at x (s.base + i)) (ap slot_of g ∙ sym (queue_front s.base s.slots m i Unknown b (omega arith)))
+    ∙ (sym (last_ack_at q s.base m i b (ap is_ack (queue_front s.base s.slots m i Unknown b (omega arith)) ∙ f) (λ j a d. ap is_ack (queue_front s.base s.slots m j Unknown d (omega arith)) ∙ h j a d)) ∙ last_upto s m k e))
