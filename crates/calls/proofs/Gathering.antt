@@ -1,9 +1,11 @@
 -- The steps of the choice of what a head sends of its own accord.
-use Rattle.std.proofs.Common.{◌≡◌, ℕ, zero, suc, ◌+◌, ◌-◌, ◌%◌, ◌<◌, ◌≤◌, Bool, true, false, cond, ltb, List, [], ◌∷◌, ◌++◌, length, get_or, Some, None, Option, MatchOption, subst, ◌⊎◌, sym, refl, ap, ◌∙◌, inl, inr, append_assoc, append-nil, arith, length-append}
+use Rattle.std.proofs.Common.{◌≡◌, ℕ, zero, suc, ◌+◌, ◌-◌, ◌%◌, ◌<◌, ◌≤◌, Bool, true, false, map, cond, ltb, List, [], ◌∷◌, ◌++◌, length, get_or, Some, None, Option, MatchOption, subst, ◌⊎◌, sym, refl, ap, ◌∙◌, inl, inr, append_assoc, append-nil, arith, length-append}
 use Rattle.std.proofs.Math.Nat.{mod-add-mod, mod-eq_of_lt}
-use Rattle.std.proofs.lemmas.List.{get_or_past, get_or_default}
+use Rattle.std.proofs.lemmas.List.{map-append, get_or_past, get_or_default}
 use Rattle.std.proofs.lemmas.Bool.{lt-ltb, cond-true, cond-false, cases_lt, both_ways, ltb-true, ltb-false}
 use Rattle.frames.specs.Bounds.{after}
+use Rattle.frames.specs.declared.types.Name.{Name as CName}
+use Rattle.frames.specs.Types.{name_of}
 use Rattle.frames.specs.Values.{Name, Message, Frame, data_frame}
 use Rattle.head.specs.Head.{Head, Kept, Pending, low}
 use Rattle.head.specs.Hear.{found}
@@ -118,6 +120,11 @@ module _ {M : Type 0} (a z b : ℕ) (r : Option M) (U : Type 0) (C : ℕ → Typ
       go : (q : Option ℕ) → MatchOption q ((z - a ≡ 0) × (b ≡ a)) (λ x. (0 < z - a) × (x ≡ a) × (b ≡ a + 1)) → MatchOption q ((r ≡ None) × U) C → (z ≤ a) ⊎ C a
       go None s c = inl (omega (arith, s.0))
       go (Some x) s c = inr (subst C s.1 c)
+
+-- a name pushed on a list, as it is meant
+pub pushed : (xs ys : List CName) (x : CName) (r : Bool) → ys ≡ cond r (xs ++ x ∷ []) xs → map name_of ys ≡ cond r (map name_of xs ++ name_of x ∷ []) (map name_of xs)
+pushed xs ys x true e = ap (map name_of) e ∙ map-append name_of xs (x ∷ [])
+pushed xs ys x false e = ap (map name_of) e
 
 -- the runs of the sources, one after another
 

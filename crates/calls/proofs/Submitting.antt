@@ -1,6 +1,6 @@
 -- The rules of submit, one by one.
-use Rattle.std.proofs.Common.{◌≡◌, ℕ, suc, ◌-◌, ◌<◌, true, false, cond, ◌&&◌, eqb, leb, List, [], ◌∷◌, length, Some, Ok, sym, ◌∙◌, arith}
-use Rattle.std.proofs.lemmas.Bool.{le-leb, lt-leb, and_from}
+use Rattle.std.proofs.Common.{◌≡◌, ℕ, suc, ◌-◌, ◌<◌, ◌≤◌, true, false, cond, ◌&&◌, eqb, leb, List, [], ◌∷◌, length, Some, Ok, sym, ◌∙◌, arith}
+use Rattle.std.proofs.lemmas.Bool.{le-leb, lt-leb, and_from, and_right}
 use Rattle.frames.specs.declared.refusal.Refusal.TheVariants.{BadLevel, BadBodyLength, TooManyUnordered, NumbersUsedUp}
 use Rattle.frames.specs.Bounds.{level_ok, body_length_ok, number_ok}
 use Rattle.frames.specs.Values.{data_frame}
@@ -33,6 +33,12 @@ module _ (n l : ℕ) (b : List ℕ) (h : Head) where
 
     bd : (body_length_ok (length b) ≡ true) × (w ≡ b)
     bd = passed (body_length_ok (length b)) b w BadBodyLength f
+
+    pub unordered_refused : 4 ≤ h.made - low h h.me → refuse TooManyUnordered h ≡ submit n l b h
+    unordered_refused g = sym (sized lv.0 bd.0 ∙ pick (leb 4 (h.made - low h h.me)) true (refuse TooManyUnordered h) (submit_number n l b h) (le-leb 4 (h.made - low h h.me) g))
+
+    pub used_up_refused : h.made - low h h.me < 4 → 500000 ≤ h.made → refuse NumbersUsedUp h ≡ submit n l b h
+    used_up_refused g k = sym (counted lv.0 bd.0 g ∙ pick (number_ok (suc h.made)) false (make n l b h) (refuse NumbersUsedUp h) (and_right (leb 1 (suc h.made)) (leb (suc h.made) 500000) (lt-leb (suc h.made) 500000 (omega arith))))
 
     pub message_made : (k : ℕ) (p : Pending) → h.made - low h h.me < 4 → h.made < 500000 → k ≡ suc h.made → p ≡ (λ s i. cond (eqb s h.me && eqb i k) (Some (record { level = v; body = w })) (h.pending s i))
         → done n (made_it k) (record { me = h.me; made = k; base = h.base; queue = h.queue; gone = h.gone; pending = p; due = h.due; ticks = h.ticks; tries = h.tries }) (data_frame (record { name = record { source = h.me; number = k; level = v }; body = w }) ∷ []) ≡ submit n l b h

@@ -7,7 +7,8 @@ use Rattle.head.specs.Upkeep.{settled}
 use Rattle.head.specs.Answers.{done, idle, fired}
 use Rattle.head.specs.Tick.{wait, asked, busy, own_message, fire, fire_ack, tick_with, tick_token, tick_due, tick}
 use Rattle.head.specs.Turn.{to_order, new_ack}
-use Rattle.store.specs.declared.types.Frames.{Frames}
+use Rattle.frames.specs.declared.table.Table.{Table}
+use Rattle.frames.specs.declared.types.Frame.{Frame as CFrame}
 use Rattle.store.specs.Puts.{puts_of}
 use Rattle.store.proofs.Looking.{length-puts_of}
 use Rattle.calls.proofs.Choosing.{pick}
@@ -31,7 +32,7 @@ module _ (n : ℕ) (h : Head) where
 
   -- what fired, by its frames
 
-  pub fire_ack_as : (ps : Frames) (xs : List Name) (a : Ack) (g : Head) (ms : List Frame) → puts_of ps ≡ ack_frame a ∷ ms → a ≡ new_ack h xs → g ≡ place h (new_ack h xs) → ms ≡ own_message g
+  pub fire_ack_as : (ps : Table CFrame 3) (xs : List Name) (a : Ack) (g : Head) (ms : List Frame) → puts_of ps ≡ ack_frame a ∷ ms → a ≡ new_ack h xs → g ≡ place h (new_ack h xs) → ms ≡ own_message g
       → record { answer = fired ps.count; head = settled n g; puts = puts_of ps; issued = Some a } ≡ fire_ack n h xs
   fire_ack_as ps xs a g ms p e f m =
       let o : ms ≡ own_message (place h (new_ack h xs)) = m ∙ ap own_message f in

@@ -2,7 +2,8 @@
 use Rattle.std.proofs.Common.{◌≡◌, ℕ, ◌<◌, true, false, List, [], ◌∷◌, length, sym, refl, ap, ◌∙◌, inl, inr, arith}
 use Rattle.std.proofs.lemmas.Bool.{cases_eq}
 use Rattle.frames.specs.declared.refusal.Refusal.TheVariants.{StampsUsedUp}
-use Rattle.frames.specs.declared.types.Names.{Names}
+use Rattle.frames.specs.declared.table.Table.{Table}
+use Rattle.frames.specs.declared.types.Name.{Name as CName}
 use Rattle.frames.specs.Types.{names_of}
 use Rattle.frames.specs.Values.{Name}
 use Rattle.frames.proofs.Naming.{length-names_of}
@@ -12,7 +13,7 @@ use Rattle.head.specs.Turn.{turn, turn_with, turn_stamps, to_order, issue}
 use Rattle.calls.proofs.Choosing.{pick}
 
 -- there are names
-pub some_names : (ns : Names) → (ns.count ≡ 0 → ⊥) → 0 < length (names_of ns)
+pub some_names : (ns : Table CName 4) → (ns.count ≡ 0 → ⊥) → 0 < length (names_of ns)
 some_names ns h = let l = length-names_of ns in elim (cases_eq ns.count 0) [ inl z ↦ absurd (h z) | inr z ↦ omega arith ]
 
 module _ (n : ℕ) (h : Head) where

@@ -2,14 +2,14 @@
 use Rattle.std.specs.Prelude.{ℕ, [], ◌∷◌, Ok, Err, Result}
 use Rattle.frames.specs.declared.refusal.Refusal.{Refusal}
 use Rattle.frames.specs.Values.{data_frame}
-use Rattle.frames.specs.Types.{message_of}
+use Rattle.frames.specs.Types.{message_meant}
 use Rattle.head.specs.Head.{Head}
 use Rattle.head.specs.Upkeep.{settled}
 use Rattle.head.specs.Answers.{Answer, Done, done, refuse, made_it, quiet, kept, filled, repeat, far, placed, crowded, resent, nothing, not_yours, ordered, idle, fired, waiting, delivered}
 use Rattle.store.specs.Look.{top_of}
 use Rattle.store.specs.Puts.{puts_of}
 use Rattle.calls.specs.declared.answers.Done.{Done as CDone}
-use Rattle.calls.specs.declared.answers.Message.{Message}
+use Rattle.frames.specs.declared.types.Message.{Message}
 use Rattle.calls.specs.declared.answers.Submission.{Submission}
 use Rattle.calls.specs.declared.answers.Submission.TheVariants as SubmissionCase
 use Rattle.calls.specs.declared.answers.Hearing.{Hearing}
@@ -49,7 +49,7 @@ ticked (TickedCase.Fired k) = fired k
 
 abbrev pub handed : Delivered → Answer
 handed DeliveredCase.Waiting = waiting
-handed (DeliveredCase.Message m t) = delivered (message_of m.name m.body) t
+handed (DeliveredCase.Message m t) = delivered (message_meant m) t
 
 -- what a call did, by the word of its answer and the head that it leaves
 abbrev pub did : {A : Type 0} → (A → Answer) → CDone A → Head → Done
@@ -72,5 +72,5 @@ hears_before n (Err e) h = refuse e h
 
 -- the same of submit, by the message that it made
 abbrev pub makes_before : ℕ → Result Message Refusal → Head → Done
-makes_before n (Ok m) h = done n (made_it m.name.number) h (data_frame (message_of m.name m.body) ∷ [])
+makes_before n (Ok m) h = done n (made_it m.name.number) h (data_frame (message_meant m) ∷ [])
 makes_before n (Err e) h = refuse e h

@@ -1,6 +1,5 @@
 // What the calls answer: the words of docs/PROTOCOL.md, one case for each. So an answer of a single case, or of one beside a case with nothing, is no plainer as a number or an Option.
-use frames::types::{Body, Name};
-use store::look::Top;
+use frames::types::{Ack, Message};
 use store::types::Frames;
 
 // What a call did: its answer, the frames that it puts, in this order, and the ACK that it issued, if any.
@@ -8,13 +7,7 @@ use store::types::Frames;
 pub struct Done<A> {
     pub answer: A,
     pub puts: Frames,
-    pub issued: Option<Top>,
-}
-
-#[derive(Clone, Copy)]
-pub struct Message {
-    pub name: Name,
-    pub body: Body,
+    pub issued: Option<Ack>,
 }
 
 // Made: with the number of the new message, whose Data frame is put.

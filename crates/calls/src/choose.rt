@@ -8,9 +8,8 @@ ghost use Rattle.store.specs.Parts.{inbox_of, table_of};
 ghost use Rattle.calls.specs.Choice.{kept_at, sent_of};
 ghost use Rattle.calls.specs.Members.{model_of};
 
-use crate::answers::Message;
 use crate::member::Member;
-use frames::types::{Frame, Name, Names};
+use frames::types::{Frame, Message, Name, Names};
 
 impl Member {
     // What is pending of a source, at a place of its window.
@@ -61,9 +60,6 @@ impl Member {
         ensures { put_of result ≡ own_message (model_of self.now) }
     {
         let message = (0..4).find_map(|place| self.message(self.head.me, place))?;
-        Some(Frame::Data {
-            name: message.name,
-            body: message.body,
-        })
+        Some(Frame::Data(message))
     }
 }

@@ -5,7 +5,7 @@ ghost use Rattle.store.specs.Puts.{puts_of};
 
 use crate::answers::Done;
 use frames::types::Frame;
-use store::types::Frames;
+use store::put::frames_there;
 
 impl<A> Done<A> {
     // An answer, with the frame to put, if there is one.
@@ -16,7 +16,7 @@ impl<A> Done<A> {
     {
         Done {
             answer,
-            puts: Frames::of(frame, None, None),
+            puts: frames_there(frame, None, None),
             issued: None,
         }
     }

@@ -4,8 +4,20 @@ ghost use Rattle.head.specs.Head.{end as m_end, mark as m_mark};
 ghost use Rattle.calls.specs.Model.{model};
 
 use crate::machine::Head;
+use store::types::InRing;
 
 impl Head {
+    // Its ring as it sees it.
+    pub(crate) fn in_ring(&self) -> InRing
+        ensures size { result.size ≡ self.now.size }
+        ensures me { result.me ≡ self.now.me }
+    {
+        InRing {
+            size: self.size,
+            me: self.me,
+        }
+    }
+
     // The first stamp of its queue.
     pub fn base(&self) -> u32
         ensures { result ≡ (model self.now).base }

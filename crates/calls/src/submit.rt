@@ -4,10 +4,10 @@ ghost use Rattle.head.specs.Submit.{submit as m_submit};
 ghost use Rattle.calls.specs.Model.{model};
 ghost use Rattle.calls.specs.Answers.{does, makes_before, submission};
 
-use crate::answers::{Done, Message, Submission};
+use crate::answers::{Done, Submission};
 use crate::machine::Head;
 use frames::refusal::Refusal;
-use frames::types::{Body, Frame, Level, Name};
+use frames::types::{Body, Frame, Level, Message, Name};
 
 impl Head {
     // The new message. Before the upkeep.
@@ -17,7 +17,7 @@ impl Head {
         ensures after { makes_before self.old.size.heads result (model self.new) ≡ m_submit self.old.size.heads level bytes.now (model self.old) }
     {
         let level = Level::new(level, self.size)?;
-        let body = Body::new(bytes)?;
+        let body = Body::try_from(bytes)?;
         if self.made - self.inbox.low[self.me as usize] >= 4 {
             return Err(Refusal::TooManyUnordered);
         }
@@ -29,9 +29,10 @@ impl Head {
             number: self.made + 1,
             level,
         };
-        self.inbox.keep(name, body);
+        let message = Message { name, body };
+        self.inbox.keep(message);
         self.made += 1;
-        Ok(Message { name, body })
+        Ok(message)
     }
 
     // A new message of this head, with its Data frame to put.
@@ -39,11 +40,11 @@ impl Head {
         ensures size { self.new.size ≡ self.old.size }
         ensures after { does submission result (model self.new) ≡ m_submit self.old.size.heads level bytes.now (model self.old) }
     {
-        let Message { name, body } = self.compose(level, bytes)?;
+        let message = self.compose(level, bytes)?;
         self.settle();
         let answer = Submission::Made {
-            number: name.number,
+            number: message.name.number,
         };
-        Ok(Done::new(answer, Some(Frame::Data { name, body })))
+        Ok(Done::new(answer, Some(Frame::Data(message))))
     }
 }

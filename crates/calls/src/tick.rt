@@ -13,9 +13,9 @@ ghost use Rattle.calls.specs.Members.{model_of};
 use crate::answers::{Done, Ticked};
 use crate::machine::Head;
 use crate::member::Member;
-use frames::types::{Frame, Names};
+use frames::types::{Frame, Nack, Names};
 use store::look::{asked, wait};
-use store::types::Frames;
+use store::put::frames_there;
 
 impl Head {
     // The top ACK, if it is this head's own.
@@ -26,7 +26,7 @@ impl Head {
         self.queue
             .top()
             .filter(|ack| ack.issuer == self.me)
-            .map(|ack| ack.frame())
+            .map(Frame::Ack)
     }
 
     // This head may issue an ACK now.
@@ -43,11 +43,13 @@ impl Member {
         ensures size { self.new.head.size ≡ self.old.head.size }
         ensures after { did ticked result (settled self.old.head.size.heads (model_of self.new)) ≡ m_fire self.old.head.size.heads (model_of self.old) (put_of nack) }
     {
-        let puts = Frames::of(nack, self.head.own_top(), self.lowest_own());
+        let puts = frames_there(nack, self.head.own_top(), self.lowest_own());
         self.head.ticks = 0;
         self.head.tries = self.head.tries.saturating_add(1).min(15);
         Done {
-            answer: Ticked::Fired { count: puts.count },
+            answer: Ticked::Fired {
+                count: puts.count as u8,
+            },
             puts,
             issued: None,
         }
@@ -63,9 +65,11 @@ impl Member {
         ensures after { did ticked result (settled self.old.head.size.heads (model_of self.new)) ≡ m_fire_ack self.old.head.size.heads (model_of self.old) (names_of names) }
     {
         let ack = self.issue(names);
-        let puts = Frames::of(Some(ack.frame()), None, self.lowest_own());
+        let puts = frames_there(Some(Frame::Ack(ack)), None, self.lowest_own());
         Done {
-            answer: Ticked::Fired { count: puts.count },
+            answer: Ticked::Fired {
+                count: puts.count as u8,
+            },
             puts,
             issued: Some(ack),
         }
@@ -99,17 +103,12 @@ impl Member {
         }
         let stamp = self.head.mark();
         if stamp < self.head.end() {
-            let to = asked(
-                self.head.queue.top(),
-                self.head.tries,
-                self.head.me,
-                self.head.size,
-            );
-            return self.fire(Some(Frame::Nack {
+            let to = asked(self.head.queue.top(), self.head.tries, self.head.in_ring());
+            return self.fire(Some(Frame::Nack(Nack {
                 from: self.head.me,
                 to,
                 stamp,
-            }));
+            })));
         }
         self.pass_token()
     }

@@ -1,16 +1,14 @@
 // The token: whether this head has it, and the ACK that it may then issue.
 ghost use Rattle.std.specs.Prelude.{◌≡◌, true};
-ghost use Rattle.frames.specs.Types.{names_of};
+ghost use Rattle.frames.specs.Types.{ack_meant, names_of};
 ghost use Rattle.head.specs.Head.{holds, next_of, place, room, stamps_left, top};
 ghost use Rattle.head.specs.Turn.{new_ack, to_order};
-ghost use Rattle.store.specs.Parts.{ack_of};
 ghost use Rattle.calls.specs.Model.{model};
 ghost use Rattle.calls.specs.Members.{model_of};
 
 use crate::machine::Head;
 use crate::member::Member;
-use frames::types::Names;
-use store::look::Top;
+use frames::types::{Ack, Names};
 
 impl Head {
     // The head that the top ACK names as next; head 0 while no ACK is known.
@@ -48,22 +46,21 @@ impl Head {
 
 impl Member {
     // Issues the next ACK: it takes the stamp end, and is placed.
-    pub(crate) fn issue(&mut self, names: Names) -> Top
+    pub(crate) fn issue(&mut self, names: Names) -> Ack
         requires room { room (model_of self.old) ≡ true }
         requires stamps { stamps_left (model_of self.old) ≡ true }
         requires chosen { names_of names ≡ to_order self.old.head.size.heads (model_of self.old) }
         ensures size { self.new.head.size ≡ self.old.head.size }
-        ensures ack { ack_of result.stamp result.issuer result.names ≡ new_ack (model_of self.old) (names_of names) }
+        ensures ack { ack_meant result ≡ new_ack (model_of self.old) (names_of names) }
         ensures names { result.names ≡ names }
         ensures after { model_of self.new ≡ place (model_of self.old) (new_ack (model_of self.old) (names_of names)) }
     {
-        let stamp = self.head.end();
-        let issuer = self.head.me;
-        self.head.place(stamp, issuer, names);
-        Top {
-            stamp,
-            issuer,
+        let ack = Ack {
+            stamp: self.head.end(),
+            issuer: self.head.me,
             names,
-        }
+        };
+        self.head.place(ack);
+        ack
     }
 }

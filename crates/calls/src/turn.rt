@@ -7,7 +7,8 @@ ghost use Rattle.calls.specs.Members.{model_of};
 use crate::answers::{Done, Turned};
 use crate::member::Member;
 use frames::refusal::Refusal;
-use store::types::Frames;
+use frames::types::Frame;
+use store::put::frames_there;
 
 impl Member {
     // Before the upkeep.
@@ -33,9 +34,9 @@ impl Member {
         Ok(Done {
             answer: Turned::Ordered {
                 stamp: ack.stamp,
-                count: names.count,
+                count: names.count as u8,
             },
-            puts: Frames::of(Some(ack.frame()), None, None),
+            puts: frames_there(Some(Frame::Ack(ack)), None, None),
             issued: Some(ack),
         })
     }

@@ -1,6 +1,7 @@
-use Rattle.std.proofs.Common.{rules, take, ◌∙◌}
+use Rattle.std.proofs.Common.{rules, ◌∙◌}
 use Rattle.std.proofs.lemmas.Iterator.Search.{any_from_yields_List}
 use Rattle.std.proofs.lemmas.Iterator.{YieldsList-from_slice}
+use Rattle.frames.specs.Tables.{items}
 use Rattle.frames.specs.Types.{name_of}
 use Rattle.head.specs.Hear.{bad_name}
 use Rattle.calls.specs.Model.{model}
@@ -10,5 +11,5 @@ use Rattle.calls.proofs.machine.Head.any_bad.Goals as goal
 pub returns : goal.returns
 returns c =
     let h = model c.args.self.now in
-    let xs = take c.args.names.count c.args.names.all in
+    let xs = items c.args.names in
     any_from_yields_List (λ x. bad_name h (name_of x)) _ _ c.any.result c.any.ensures.ran (YieldsList-from_slice xs cc) (λ x b q k. search rules) ∙ any_bad h xs

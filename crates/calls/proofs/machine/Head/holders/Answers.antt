@@ -1,6 +1,9 @@
-use Rattle.std.proofs.Common.{Ok, Result, sym, refl, ap, ◌∙◌}
+use Rattle.std.proofs.Common.{◌≡◌, ℕ, cond, drop, ◌++◌, Ok, Result, sym, refl, ap, ◌∙◌}
 use Rattle.std.proofs.lemmas.Bool.{cond-true, le-leb}
 use Rattle.frames.specs.declared.refusal.Refusal.{Refusal}
+use Rattle.frames.specs.declared.types.RingSize.{RingSize}
+use Rattle.head.specs.Deliver.{holders, orderer}
+use Rattle.head.specs.Questions.{marks_from}
 use Rattle.store.specs.Holders.{Keeps}
 use Rattle.store.specs.Parts.{slot_of}
 use Rattle.calls.specs.declared.machine.Head.{Head}
@@ -8,8 +11,8 @@ use Rattle.calls.specs.Model.{model}
 use Rattle.calls.proofs.Asking.{asked_data, long_answer, long_scratch}
 use Rattle.calls.proofs.machine.Head.holders.Goals as goal
 
-keeps : (x : Head) → Keeps (model x) x.me x.queue
-keeps x = record { number = refl; base = refl; queue = refl }
+keeps : (x : Head) (me : ℕ) → me ≡ x.me → Keeps (model x) me x.queue
+keeps x me e = record { number = sym e; base = refl; queue = refl }
 
 pub returns : goal.returns
 returns c =
@@ -20,6 +23,6 @@ returns c =
     let m = c.mark_holders.ensures in
     let long = c.if-scratch-lt96.false in
     record {
-      answer = ap {B = Result _ Refusal} Ok (c.holders.ensures.value (model x) (keeps x)) ∙ long_answer n (model x) s c.args.scratch.now _ long e;
-      after = m.after (model x) (keeps x) ∙ (cond-true c.mark_holders.result _ _ (m.answer ∙ le-leb 96 _ long) ∙ long_scratch n (model x) s c.args.scratch.now _ long e);
+      answer = ap {B = Result _ Refusal} Ok (c.holders.ensures.value (model x) (keeps x _ c.in_ring-2.ensures.me) ∙ ap (λ (v : RingSize). holders v.heads (model x) s) c.in_ring-2.ensures.size) ∙ long_answer n (model x) s c.args.scratch.now _ long e;
+      after = m.after (model x) (keeps x _ c.in_ring.ensures.me) ∙ (ap (λ (v : RingSize). cond c.mark_holders.result (marks_from v.heads (model x) (orderer (model x) s) ++ drop 96 c.args.scratch.now) c.args.scratch.now) c.in_ring.ensures.size ∙ cond-true c.mark_holders.result _ _ (m.answer ∙ le-leb 96 _ long) ∙ long_scratch n (model x) s c.args.scratch.now _ long e);
     }

@@ -1,5 +1,5 @@
 use Rattle.std.proofs.Common.{◌∙◌, ap, sym, arith}
-use Rattle.frames.specs.Types.{message_of}
+use Rattle.frames.specs.Types.{message_meant}
 use Rattle.calls.specs.Answers.{hears_before}
 use Rattle.calls.specs.Model.{model}
 use Rattle.calls.proofs.Lows.{low_is}
@@ -11,6 +11,6 @@ returns-clause-after c =
     let x = c.args.self.now in
     let n = x.size.heads in
     let h = model x in
-    let m = message_of c.args.name c.args.body in
-    let e = low_is x c.args.name.source in
+    let m = message_meant c.args.message in
+    let e = low_is x c.args.message.name.source in
     ap (λ r. hears_before n r h) c.repeated.ensures ∙ (repeat_or n h _ _ c.is_kept.ensures ∙ sym (new_near n h m _ (omega arith) (omega arith) (sym c.in-Some.ensures)))

@@ -1,7 +1,8 @@
-use Rattle.std.proofs.Common.{[], ◌∷◌, sym, refl, ◌∙◌, arith}
+use Rattle.std.proofs.Common.{[], ◌∷◌, sym, refl, ap, ◌∙◌, arith}
 use Rattle.frames.specs.Values.{nack_frame}
 use Rattle.head.specs.Head.{top}
-use Rattle.head.specs.Tick.{fire}
+use Rattle.frames.specs.declared.types.RingSize.{RingSize}
+use Rattle.head.specs.Tick.{asked, fire}
 use Rattle.calls.specs.Model.{model}
 use Rattle.calls.proofs.Ticking.{tick_lacks}
 use Rattle.calls.proofs.member.Member.count_tick.Goals as goal
@@ -14,5 +15,6 @@ returns-then-stamp-end-clause-after c =
     let w = c.wait.ensures in
     let m = c.mark-stamp.ensures in
     let e = c.end.ensures.value in
-    let o = c.asked-to.ensures (model x) refl refl (sym c.top.ensures) in
+    let ring = c.in_ring.ensures in
+    let o = c.asked-to.ensures (model x) (sym ring.me) refl (sym c.top.ensures) ∙ ap (λ (v : RingSize). asked v.heads (model x)) ring.size in
     c.fire.ensures.after ∙ ((λ j. fire n (model x) (nack_frame x.me (o j) (m j) ∷ [])) ∙ sym (tick_lacks n (model x) (omega arith) (omega arith)))

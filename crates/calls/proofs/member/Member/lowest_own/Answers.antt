@@ -1,6 +1,6 @@
 use Rattle.std.proofs.Common.{rules, sym, ap, ◌∙◌}
 use Rattle.std.proofs.iter.runs.Sources.{ranges}
-use Rattle.frames.specs.Types.{message_of}
+use Rattle.frames.specs.Types.{message_meant}
 use Rattle.store.specs.Look.{put_of}
 use Rattle.calls.proofs.Gathering.{own_found, own_absent}
 use Rattle.calls.proofs.member.Member.lowest_own.Goals as goal
@@ -13,4 +13,4 @@ returns c =
     let m = c.in_ok-message.message in
     let w = c.in_ok-message.ensures.runs.2 in
     let before = (w.3 (λ a r q k. search rules)).1 in
-    sym (own_found c.args.self.now.head w.0 (message_of m.name m.body) (search (rules, ranges)) (λ j l. let none = before j l in search (rules, ranges)) (search (rules, ranges)))
+    sym (own_found c.args.self.now.head w.0 (message_meant m) (search (rules, ranges)) (λ j l. let none = before j l in search (rules, ranges)) (search (rules, ranges)))
