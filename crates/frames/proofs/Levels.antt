@@ -1,5 +1,5 @@
 -- A level by its number.
-use Rattle.std.proofs.Common.{◌≡◌, ℕ, ◌≤◌, cond, eqb, nat_eq, Bool, sym, refl, ap, ◌∙◌, arith}
+use Rattle.std.proofs.Common.{◌≤◌, arith}
 use Rattle.frames.specs.declared.types.Level.{Level}
 use Rattle.frames.specs.declared.types.Level.TheVariants.{Total, One, Two, Three, Four, Five, Six, Seven, Majority, Safe}
 use Rattle.frames.specs.Types.{level_number}
