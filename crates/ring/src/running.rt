@@ -15,7 +15,7 @@ use calls::member::Member;
 use frames::refusal::Refusal;
 use links::link::Link;
 
-// A call on the head at a place.
+// A call on the head at a place of a table.
 fn call_at<A, F: FnOnce(&mut Member) -> Result<Done<A>, Refusal>>(
     heads: &mut [Member],
     head: usize,
@@ -48,7 +48,7 @@ impl<L: Link> Ring<L> {
     ) -> Result<A, Refusal>
         requires there { head < self.old.heads.size.heads }
         requires callable { F.IsAlwaysCallable call }
-        requires known { (m : Meaning A) × Means F.FnOnce call m }
+        requires meant { (m : Meaning A) × Means F.FnOnce call m }
         ensures { (m : Meaning A) → Means F.FnOnce call m → (w : Waits) → Takes m.call head m.taken w (L.waits self.old.link) → Moved self.old.heads w head m.call (answered m.word result) self.new.heads (L.waits self.new.link) }
     {
         let done = call_at(&mut self.heads.all, head as usize, call);

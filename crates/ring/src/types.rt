@@ -14,7 +14,7 @@ pub struct Roster {
     ghost most: { count ≤ 8 },
 }
 
-// A head for each number. A ring has the first ones, as many as its size says.
+// A head for each number. A ring has the first ones, as many as its size says: a device has fixed memory and no heap.
 #[derive(Drop)]
 pub struct Heads {
     pub(crate) all: [Member; 8],

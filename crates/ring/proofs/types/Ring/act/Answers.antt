@@ -5,12 +5,12 @@ use Rattle.ring.proofs.types.Ring.act.Goals as goal
 pub invariant_of-self : goal.invariant_of-self
 invariant_of-self g c =
     let e = c.call_at-done.ensures in
-    rw (e.4) (facts_after c.args.self.now.heads c.args.head c.requires.there e.3 (c.requires.known.1 _ _ _ e.2))
+    rw (e.4) (facts_after c.args.self.now.heads c.args.head c.requires.there e.3 (c.requires.meant.1 _ _ _ e.2))
 
 pub send-requires : goal.send-requires
 send-requires g c =
     let e = c.call_at-done.ensures in
-    all_written c.args.self.now.heads c.args.head c.requires.there e.3 (c.requires.known.1 _ _ _ e.2)
+    all_written c.args.self.now.heads c.args.head c.requires.there e.3 (c.requires.meant.1 _ _ _ e.2)
 
 pub returns : goal.returns
 returns g c = λ m k w t.

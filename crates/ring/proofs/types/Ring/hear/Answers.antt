@@ -4,9 +4,9 @@ use Rattle.calls.specs.Answers.{hearing}
 use Rattle.ring.specs.Ring.{hears, perform}
 use Rattle.ring.proofs.types.Ring.hear.Goals as goal
 
-pub act-requires-clause-known : goal.act-requires-clause-known
+pub act-requires-clause-meant : goal.act-requires-clause-meant
 unfolding perform
-act-requires-clause-known g c = (record { call = hears; taken = taken_of c.take-packet.result; word = hearing }, λ x d y r. search rules)
+act-requires-clause-meant g c = (record { call = hears; taken = taken_of c.take-packet.result; word = hearing }, λ x d y r. search rules)
 
 pub returns : goal.returns
 unfolding perform

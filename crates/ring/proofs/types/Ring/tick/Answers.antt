@@ -3,9 +3,9 @@ use Rattle.calls.specs.Answers.{ticked}
 use Rattle.ring.specs.Ring.{ticks, perform}
 use Rattle.ring.proofs.types.Ring.tick.Goals as goal
 
-pub act-requires-clause-known : goal.act-requires-clause-known
+pub act-requires-clause-meant : goal.act-requires-clause-meant
 unfolding perform
-act-requires-clause-known g c = (record { call = ticks; taken = None; word = ticked }, λ x d y r. search rules)
+act-requires-clause-meant g c = (record { call = ticks; taken = None; word = ticked }, λ x d y r. search rules)
 
 pub returns : goal.returns
 unfolding perform

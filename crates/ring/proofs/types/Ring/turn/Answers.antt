@@ -3,9 +3,9 @@ use Rattle.calls.specs.Answers.{turned}
 use Rattle.ring.specs.Ring.{turns, perform}
 use Rattle.ring.proofs.types.Ring.turn.Goals as goal
 
-pub act-requires-clause-known : goal.act-requires-clause-known
+pub act-requires-clause-meant : goal.act-requires-clause-meant
 unfolding perform
-act-requires-clause-known g c = (record { call = turns; taken = None; word = turned }, λ x d y r. search rules)
+act-requires-clause-meant g c = (record { call = turns; taken = None; word = turned }, λ x d y r. search rules)
 
 pub returns : goal.returns
 unfolding perform
