@@ -1,23 +1,23 @@
 -- Counting lines by what they are.
-use Rattle.std.specs.Prelude.{ℕ, ◌+◌, min, cond, List, ◌==◌, slice_index, slice_set}
+use Rattle.std.specs.Prelude.{ℕ, ◌+◌, min, cond, List, Ok, Err, Result, ◌==◌, slice_index, slice_set}
 use Rattle.frames.specs.declared.types.Frame.{Frame}
 use Rattle.frames.specs.declared.types.Frame.TheVariants.{Data, Ack, Nack}
 use Rattle.frames.specs.Refusals.{number_of}
-use Rattle.account.specs.declared.line.Line.{Line}
-use Rattle.account.specs.declared.line.Line.TheVariants.{Heard, Refused, NotHex}
+use Rattle.account.specs.declared.line.LineError.{LineError}
+use Rattle.account.specs.declared.line.LineError.TheVariants.{Refused, NotHex}
 use Rattle.account.specs.declared.tally.Sort.{Sort}
 use Rattle.account.specs.declared.tally.Sort.TheVariants.{DataFrame, AckFrame, NackFrame, NoFrame, OutOfRange, NoHex}
 
 abbrev pub frame_sort : Frame → Sort
-frame_sort (Data x b) = DataFrame
-frame_sort (Ack t i ns) = AckFrame
-frame_sort (Nack f o t) = NackFrame
+frame_sort (Data m) = DataFrame
+frame_sort (Ack a) = AckFrame
+frame_sort (Nack k) = NackFrame
 
 -- reading refuses by 11 and 12 alone
-abbrev pub sort_of : Line → Sort
-sort_of (Heard f) = frame_sort f
-sort_of (Refused e) = cond (number_of e == 11) NoFrame OutOfRange
-sort_of NotHex = NoHex
+abbrev pub sort_of : Result Frame LineError → Sort
+sort_of (Ok f) = frame_sort f
+sort_of (Err (Refused e)) = cond (number_of e == 11) NoFrame OutOfRange
+sort_of (Err NotHex) = NoHex
 
 abbrev pub place_of : Sort → ℕ
 place_of DataFrame = 0

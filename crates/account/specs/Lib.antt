@@ -1,4 +1,3 @@
 pub mod Hex
-pub mod Pairs
 pub mod Lines
 pub mod Counts

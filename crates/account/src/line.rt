@@ -1,4 +1,4 @@
-// What a line of text is.
+// What a line of text is: a frame, or why it is none.
 ghost use Rattle.std.specs.Prelude.{◌≡◌, IfOk};
 ghost use Rattle.account.specs.Lines.{line_of, line_for};
 
@@ -7,25 +7,27 @@ use frames::read::read;
 use frames::refusal::Refusal;
 use frames::types::{Frame, RingSize};
 use std::alloc::{AllocError, Global};
+use thiserror::Error;
 
-#[derive(Clone, Copy)]
-pub enum Line {
-    Heard(Frame),
-    Refused(Refusal),
+// Why a line is no frame.
+#[derive(Clone, Copy, PartialEq, Eq, Debug, Error)]
+pub enum LineError {
+    #[error("not base-sixteen text")]
     NotHex,
+    #[error("refused, {}: {}", .0.number(), .0)]
+    Refused(Refusal),
 }
 
-impl Line {
-    // The frame that the text writes in base sixteen, as heard in a ring of this size, or why it is none.
-    pub fn new(size: RingSize, text: &[u8], heap: Global) -> Result<Line, AllocError>
-        ensures { IfOk result (λ l. line_of l ≡ line_for size.heads text.now) }
-    {
-        let Some(bytes) = parse(text, heap)? else {
-            return Ok(Line::NotHex);
-        };
-        match read(size, bytes.as_slice()) {
-            Ok(frame) => Ok(Line::Heard(frame)),
-            Err(refusal) => Ok(Line::Refused(refusal)),
-        }
-    }
+// The frame that the text writes in base sixteen, as heard in a ring of this size. Only memory fails the reading of a line.
+pub fn read_line(
+    size: RingSize,
+    text: &[u8],
+    heap: Global,
+) -> Result<Result<Frame, LineError>, AllocError>
+    ensures { IfOk result (λ l. line_of l ≡ line_for size.heads text.now) }
+{
+    let Some(bytes) = parse(text, heap)? else {
+        return Ok(Err(LineError::NotHex));
+    };
+    Ok(read(size, bytes.as_slice()).map_err(LineError::Refused))
 }

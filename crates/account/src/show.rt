@@ -1,9 +1,9 @@
 // Lines and counts as text.
-use crate::line::Line;
+use crate::line::LineError;
 use crate::tally::{Sort, Tally};
-use bodies::kind::{Kind, decode};
+use bodies::kind::decode;
 use bodies::values::{Door, Reading, SetPoint};
-use frames::types::{Body, Frame, Names, RingSize};
+use frames::types::{Ack, Body, Frame, Name, RingSize};
 use std::fmt;
 
 // A line with its number, as heard in a ring of this size.
@@ -11,21 +11,7 @@ use std::fmt;
 pub struct Entry {
     pub number: u64,
     pub size: RingSize,
-    pub line: Line,
-}
-
-// Writes what the body says where it is of this kind, and answers whether it was.
-fn say<K: Kind + fmt::Display + Drop, W: fmt::Write>(
-    body: &Body,
-    f: &mut fmt::Formatter<W>,
-) -> Result<bool, fmt::Error> {
-    match decode::<K>(body) {
-        Ok(value) => {
-            write!(f, ": {value}")?;
-            Ok(true)
-        }
-        Err(_) => Ok(false),
-    }
+    pub line: Result<Frame, LineError>,
 }
 
 fn show_body<W: fmt::Write>(body: Body, f: &mut fmt::Formatter<W>) -> fmt::Result {
@@ -33,71 +19,73 @@ fn show_body<W: fmt::Write>(body: Body, f: &mut fmt::Formatter<W>) -> fmt::Resul
     for byte in body.as_slice() {
         write!(f, " {byte:02X}")?;
     }
-    if say::<Reading, W>(&body, f)? || say::<Door, W>(&body, f)? || say::<SetPoint, W>(&body, f)? {
-        return Ok(());
+    if let Ok(reading) = decode::<Reading>(&body) {
+        write!(f, ": {reading}")
+    } else if let Ok(door) = decode::<Door>(&body) {
+        write!(f, ": {door}")
+    } else if let Ok(set_point) = decode::<SetPoint>(&body) {
+        write!(f, ": {set_point}")
+    } else {
+        write!(f, ": no kind that is known")
     }
-    write!(f, ": no kind that is known")
 }
 
-fn show_names<W: fmt::Write>(names: Names, f: &mut fmt::Formatter<W>) -> fmt::Result {
-    if names.count == 0 {
+fn show_names<W: fmt::Write>(names: &[Name], f: &mut fmt::Formatter<W>) -> fmt::Result {
+    if names.is_empty() {
         return write!(f, ", no names");
     }
-    for i in 0..names.count as usize {
-        let name = names.all[i];
+    for name in names {
         write!(f, "; {name}")?;
     }
     Ok(())
 }
 
-fn show_frame<W: fmt::Write>(
-    size: RingSize,
-    frame: Frame,
-    f: &mut fmt::Formatter<W>,
-) -> fmt::Result {
-    match frame {
-        Frame::Data { name, body } => {
-            write!(f, "Data: {name}")?;
-            show_body(body, f)
-        }
-        Frame::Ack {
-            stamp,
-            issuer,
-            names,
-        } => {
-            let next = (issuer as u16 + 1) % size.heads as u16;
-            write!(f, "ACK: stamp {stamp}, issuer {issuer}, next {next}")?;
-            show_names(names, f)
-        }
-        Frame::Nack { from, to, stamp } => write!(f, "NACK: from {from}, to {to}, stamp {stamp}"),
-    }
+fn show_ack<W: fmt::Write>(size: RingSize, ack: Ack, f: &mut fmt::Formatter<W>) -> fmt::Result {
+    let next = (u16::from(ack.issuer) + 1) % u16::from(size.heads);
+    write!(
+        f,
+        "ACK: stamp {}, issuer {}, next {next}",
+        ack.stamp, ack.issuer
+    )?;
+    show_names(ack.names.as_slice(), f)
 }
 
 impl fmt::Display for Entry {
     fn fmt<W: fmt::Write>(&self, f: &mut fmt::Formatter<W>) -> fmt::Result {
-        let number = self.number;
-        write!(f, "{number:>4}  ")?;
+        write!(f, "{:>4}  ", self.number)?;
         match self.line {
-            Line::Heard(frame) => show_frame(self.size, frame, f),
-            Line::Refused(refusal) => {
-                let by = refusal.number();
-                write!(f, "refused, {by}: {refusal}")
+            Ok(Frame::Data(message)) => {
+                write!(f, "Data: {}", message.name)?;
+                show_body(message.body, f)
             }
-            Line::NotHex => write!(f, "not base-sixteen text"),
+            Ok(Frame::Ack(ack)) => show_ack(self.size, ack, f),
+            Ok(Frame::Nack(nack)) => {
+                write!(
+                    f,
+                    "NACK: from {}, to {}, stamp {}",
+                    nack.from, nack.to, nack.stamp
+                )
+            }
+            Err(error) => write!(f, "{error}"),
         }
     }
 }
 
 impl fmt::Display for Tally {
     fn fmt<W: fmt::Write>(&self, f: &mut fmt::Formatter<W>) -> fmt::Result {
-        let data = self.count(Sort::DataFrame);
-        let acks = self.count(Sort::AckFrame);
-        let nacks = self.count(Sort::NackFrame);
-        let no_frame = self.count(Sort::NoFrame);
-        let out_of_range = self.count(Sort::OutOfRange);
-        let no_hex = self.count(Sort::NoHex);
-        writeln!(f, "accepted: {data} Data, {acks} ACK, {nacks} NACK")?;
-        writeln!(f, "refused: {no_frame} by 11, {out_of_range} by 12")?;
-        write!(f, "not base-sixteen text: {no_hex}")
+        writeln!(
+            f,
+            "accepted: {} Data, {} ACK, {} NACK",
+            self.count(Sort::DataFrame),
+            self.count(Sort::AckFrame),
+            self.count(Sort::NackFrame)
+        )?;
+        writeln!(
+            f,
+            "refused: {} by 11, {} by 12",
+            self.count(Sort::NoFrame),
+            self.count(Sort::OutOfRange)
+        )?;
+        write!(f, "not base-sixteen text: {}", self.count(Sort::NoHex))
     }
 }

@@ -1,11 +1,13 @@
 // How many lines there are of each sort.
-ghost use Rattle.std.specs.Prelude.{◌≡◌, [], ◌∷◌, slice_index};
-ghost use Rattle.account.specs.Counts.{frame_sort, sort_of, place_of, with_one};
+ghost use Rattle.std.specs.Prelude.{◌≡◌, ℕ, List, [], ◌∷◌, slice_index};
+ghost use Rattle.account.specs.Counts.{sort_of, place_of, with_one};
 
-use crate::line::Line;
+use crate::line::LineError;
+use frames::refusal::Refusal;
 use frames::types::Frame;
+use std::marker::Model;
 
-#[derive(Clone, Copy)]
+#[derive(Clone, Copy, PartialEq, Eq, Debug)]
 pub enum Sort {
     DataFrame,
     AckFrame,
@@ -15,54 +17,52 @@ pub enum Sort {
     NoHex,
 }
 
-fn sort_of_frame(frame: Frame) -> Sort
-    ensures { result ≡ frame_sort frame }
-{
-    match frame {
-        Frame::Data { .. } => Sort::DataFrame,
-        Frame::Ack { .. } => Sort::AckFrame,
-        Frame::Nack { .. } => Sort::NackFrame,
-    }
-}
+impl From<Result<Frame, LineError>> for Sort {
+    ghost from_gives = { λ line sort. sort ≡ sort_of line };
 
-impl Line {
-    pub fn sort(&self) -> Sort
-        ensures { result ≡ sort_of self.now }
-    {
-        match *self {
-            Line::Heard(frame) => sort_of_frame(frame),
-            Line::Refused(refusal) => if refusal.number() == 11 {
-                Sort::NoFrame
-            } else {
-                Sort::OutOfRange
-            },
-            Line::NotHex => Sort::NoHex,
+    fn from(line: Result<Frame, LineError>) -> Sort {
+        match line {
+            Ok(Frame::Data(_)) => Sort::DataFrame,
+            Ok(Frame::Ack(_)) => Sort::AckFrame,
+            Ok(Frame::Nack(_)) => Sort::NackFrame,
+            Err(LineError::Refused(Refusal::NotAFrame)) => Sort::NoFrame,
+            Err(LineError::Refused(_)) => Sort::OutOfRange,
+            Err(LineError::NotHex) => Sort::NoHex,
         }
     }
 }
 
-#[derive(Clone, Copy)]
+#[derive(Clone, Copy, Default)]
 pub struct Tally {
     counts: [u64; 6],
 }
 
+// Clauses see the counts, in the order of the sorts.
+impl Model for Tally {
+    ghost Value = { List ℕ };
+
+    ghost view = { λ t. t.counts };
+
+    ghost inverse = { λ cs. record { counts = cs } };
+}
+
 impl Tally {
     pub fn new() -> Tally
-        ensures { result.counts ≡ 0 ∷ 0 ∷ 0 ∷ 0 ∷ 0 ∷ 0 ∷ [] }
+        ensures { result ≡ 0 ∷ 0 ∷ 0 ∷ 0 ∷ 0 ∷ 0 ∷ [] }
     {
-        Tally { counts: [0; 6] }
+        Tally::default()
     }
 
     // One line more of this sort.
     pub fn add(&mut self, sort: Sort)
-        ensures { self.new.counts ≡ with_one sort self.old.counts }
+        ensures { self.new ≡ with_one sort self.old }
     {
         let place = sort as usize;
         self.counts[place] = self.counts[place].saturating_add(1);
     }
 
     pub fn count(&self, sort: Sort) -> u64
-        ensures { result ≡ slice_index self.now.counts (place_of sort) }
+        ensures { result ≡ slice_index self.now (place_of sort) }
     {
         self.counts[sort as usize]
     }

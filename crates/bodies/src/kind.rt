@@ -4,11 +4,12 @@ ghost use Rattle.frames.specs.declared.refusal.Refusal.{Refusal as Refused};
 ghost use Rattle.frames.specs.declared.refusal.Refusal.TheVariants.{ValueOutOfRange};
 ghost use Rattle.frames.specs.Bounds.{body_length_ok};
 ghost use Rattle.frames.specs.Types.{meant, body_of, BodyRest};
-ghost use Rattle.bodies.specs.Kinds.{reading_ok, reading_bytes, reading_in, door_ok, written_door, door_in, set_point_ok, set_point_bytes, set_point_in};
+ghost use Rattle.bodies.specs.Layout.{measure_ok, measure_bytes};
+ghost use Rattle.bodies.specs.Kinds.{door_ok, written_door, door_in, measure_in};
 ghost use Rattle.std.proofs.Common.{rules};
 
-use crate::measure::{read_measure, write_measure};
-use crate::values::{Door, Reading, SetPoint};
+use crate::measure::Measure;
+use crate::values::{Door, PLACES, Temperature};
 use frames::refusal::Refusal;
 use frames::types::Body;
 
@@ -20,7 +21,7 @@ pub trait Kind: Sized {
     // the value that bytes hold, if they are of this kind
     ghost reads: { List ℕ → Result Self Refused };
 
-    // Writes the value at the front of out, and answers its length.
+    // Writes the value at the front of out, and answers its length. The memory is the caller's, since there is no heap.
     fn write(&self, out: &mut [u8; 8]) -> Result<usize, Refusal>
         ensures answer { result ≡ (if good self.now then Ok (length (bytes self.now)) else Err ValueOutOfRange) }
         ensures after { out.new ≡ (if good self.now then bytes self.now ++ drop (length (bytes self.now)) out.old else out.old) };
@@ -34,6 +35,9 @@ pub trait Kind: Sized {
     ghost fits: { (x : Self) → body_length_ok (length (bytes x)) ≡ true };
 }
 
+// The first byte of a door's body.
+const DOOR: u8 = 2;
+
 impl Kind for Door {
     ghost good = { door_ok };
 
@@ -46,82 +50,71 @@ impl Kind for Door {
     ghost fits = { Prim.search rules };
 
     fn write(&self, out: &mut [u8; 8]) -> Result<usize, Refusal> {
-        if self.compartment >= 8 {
+        if self.compartment >= PLACES {
             return Err(Refusal::ValueOutOfRange);
         }
-        out[0] = 2;
-        out[1] = self.compartment;
-        out[2] = if self.open { 1 } else { 0 };
+        out[..3].copy_from_slice(&[DOOR, self.compartment, u8::from(self.open)]);
         Ok(3)
     }
 
     fn read(body: &[u8]) -> Result<Door, Refusal> {
-        if body.len() != 3 || body[0] != 2 || body[1] >= 8 {
-            return Err(Refusal::NotThisKind);
+        match *body {
+            [DOOR, compartment, open] if compartment < PLACES => Ok(Door {
+                compartment,
+                open: open != 0,
+            }),
+            _ => Err(Refusal::NotThisKind),
         }
-        Ok(Door {
-            compartment: body[1],
-            open: body[2] != 0,
-        })
     }
 }
 
-impl Kind for Reading {
-    ghost good = { reading_ok };
+// A measure's kind, its place and its temperature in two bytes, the higher first.
+impl<M: Measure> Kind for M {
+    ghost good = { λ x. measure_ok (M.place_of x) (M.temperature_of x).hundredths };
 
-    ghost bytes = { reading_bytes };
+    ghost bytes = { λ x. measure_bytes M.KIND (M.place_of x) (M.temperature_of x).hundredths };
 
-    ghost reads = { reading_in };
+    ghost reads = { measure_in M.measured M.KIND };
 
     ghost back = { Prim.search rules };
 
     ghost fits = { Prim.search rules };
 
     fn write(&self, out: &mut [u8; 8]) -> Result<usize, Refusal> {
-        write_measure(1, self.probe, self.temperature, out)
+        let (place, temperature) = self.parts();
+        if place >= PLACES || !temperature.is_in_range() {
+            return Err(Refusal::ValueOutOfRange);
+        }
+        let [high, low] = temperature.hundredths.to_be_bytes();
+        out[..4].copy_from_slice(&[M::KIND, place, high, low]);
+        Ok(4)
     }
 
-    fn read(body: &[u8]) -> Result<Reading, Refusal> {
-        let (probe, temperature) = read_measure(1, body)?;
-        Ok(Reading { probe, temperature })
-    }
-}
-
-impl Kind for SetPoint {
-    ghost good = { set_point_ok };
-
-    ghost bytes = { set_point_bytes };
-
-    ghost reads = { set_point_in };
-
-    ghost back = { Prim.search rules };
-
-    ghost fits = { Prim.search rules };
-
-    fn write(&self, out: &mut [u8; 8]) -> Result<usize, Refusal> {
-        write_measure(3, self.compartment, self.temperature, out)
-    }
-
-    fn read(body: &[u8]) -> Result<SetPoint, Refusal> {
-        let (compartment, temperature) = read_measure(3, body)?;
-        Ok(SetPoint {
-            compartment,
-            temperature,
-        })
+    fn read(body: &[u8]) -> Result<M, Refusal> {
+        let [kind, place, high, low] = *body else {
+            return Err(Refusal::NotThisKind);
+        };
+        let temperature = Temperature {
+            hundredths: i16::from_be_bytes([high, low]),
+        };
+        if kind == M::KIND && place < PLACES && temperature.is_in_range() {
+            Ok(M::from_parts(place, temperature))
+        } else {
+            Err(Refusal::NotThisKind)
+        }
     }
 }
 
 // The body that says the value. What comes is read back as the same value.
+// No TryFrom: for every kind at once it would be a foreign trait on a foreign type.
 pub fn encode<K: Kind>(value: &K) -> Result<Body, Refusal>
     ensures answer { meant body_of result ≡ (if K.good value.now then Ok (K.bytes value.now) else Err ValueOutOfRange) }
     ensures rest { IfOk result BodyRest }
     ensures back { IfOk result (λ b. K.reads (body_of b) ≡ Ok value.now) }
 {
     let mut out = [0; 8];
-    match value.write(&mut out) {
-        Ok(len) => Body::new(&out[0..len]),
-        Err(_) => Err(Refusal::ValueOutOfRange),
-    }
+    let len = value.write(&mut out)?;
+    Body::try_from(&out[..len])
 }
 
 // The value that the body says, where it is of this kind.

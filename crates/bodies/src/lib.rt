@@ -2,7 +2,7 @@
 #![tactic(auto)]
 
 pub mod kind;
-mod measure;
+pub mod measure;
 pub mod values;
 
 // Worked bodies.
@@ -53,7 +53,7 @@ mod tests {
             encode(&warm).err().ok_or("written")?,
             Refusal::ValueOutOfRange
         );
-        let reading = Body::new(&[0x01, 0x04, 0xF8, 0xC6])?;
+        let reading = Body::try_from([0x01, 0x04, 0xF8, 0xC6].as_slice())?;
         assert_eq!(rt;
             decode::<SetPoint>(&reading).err(),
             Some(Refusal::NotThisKind)

@@ -1,6 +1,9 @@
 // What a head has to say.
 use std::fmt;
 
+// How many probes there can be, and how many compartments.
+pub(crate) const PLACES: u8 = 8;
+
 // In hundredths of a degree Celsius.
 #[derive(Clone, Copy, PartialEq, Eq, Debug)]
 pub struct Temperature {
@@ -37,24 +40,23 @@ impl fmt::Display for Temperature {
 
 impl fmt::Display for Reading {
     fn fmt<W: fmt::Write>(&self, f: &mut fmt::Formatter<W>) -> fmt::Result {
-        let probe = self.probe;
-        let temperature = self.temperature;
-        write!(f, "probe {probe} reads {temperature}")
+        write!(f, "probe {} reads {}", self.probe, self.temperature)
     }
 }
 
 impl fmt::Display for Door {
     fn fmt<W: fmt::Write>(&self, f: &mut fmt::Formatter<W>) -> fmt::Result {
-        let compartment = self.compartment;
         let state = if self.open { "open" } else { "shut" };
-        write!(f, "door {compartment} is {state}")
+        write!(f, "door {} is {state}", self.compartment)
     }
 }
 
 impl fmt::Display for SetPoint {
     fn fmt<W: fmt::Write>(&self, f: &mut fmt::Formatter<W>) -> fmt::Result {
-        let compartment = self.compartment;
-        let temperature = self.temperature;
-        write!(f, "compartment {compartment} is set to {temperature}")
+        write!(
+            f,
+            "compartment {} is set to {}",
+            self.compartment, self.temperature
+        )
     }
 }

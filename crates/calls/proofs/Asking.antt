@@ -1,6 +1,6 @@
 -- The questions that fill lent memory.
-use Rattle.std.proofs.Common.{◌≡◌, ℕ, ◌-◌, ◌<◌, ◌≤◌, Bool, true, false, cond, leb, List, length, get_or, Some, None, Ok, Err, Option, Result, sym, refl, ap, ◌∙◌, inl, inr}
-use Rattle.std.proofs.lemmas.Bool.{cases_Bool, both_ways, cond-true, cond-false, le-leb, lt-leb}
+use Rattle.std.proofs.Common.{◌≡◌, ℕ, ◌-◌, ◌≤◌, true, false, leb, List, length, get_or, Some, None, Ok, Err, Option, Result, sym, refl, ap, ◌∙◌, inl, inr}
+use Rattle.std.proofs.lemmas.Bool.{cases_Bool, both_ways, cond-true, cond-false, le-leb}
 use Rattle.frames.specs.declared.refusal.Refusal.{Refusal}
 use Rattle.frames.specs.declared.refusal.Refusal.TheVariants.{MemoryTooShort, NoDataSlot}
 use Rattle.frames.specs.declared.types.Body.{Body}
@@ -9,44 +9,15 @@ use Rattle.head.specs.Head.{Head}
 use Rattle.head.specs.Deliver.{holders, orderer}
 use Rattle.head.specs.Questions.{Holders, ask_holders, holders_at, marks_from}
 use Rattle.head.specs.Slots.{unknown, known}
-use Rattle.store.specs.declared.types.Slot.{Slot as CSlot}
-use Rattle.store.specs.declared.types.Slot.TheVariants.{Unknown, Ack as CAck, Data}
+use Rattle.store.specs.declared.types.Slot.TheVariants.{Unknown, Data}
 use Rattle.store.specs.Parts.{slot_of, data_of, queue_of}
 use Rattle.calls.specs.declared.machine.Head.{Head as CHead}
 use Rattle.calls.specs.Asking.{count_of, marked, holders_answer, holders_scratch}
 use Rattle.calls.specs.Model.{model}
 
--- a count, or too little memory
-counted : Option ℕ → Result ℕ Refusal
-counted None = Err MemoryTooShort
-counted (Some k) = Ok k
-
-pub counted_some : (b : Bool) (k c : ℕ) → Some c ≡ cond b (Some k) None → ◌≡◌ {A = Result ℕ Refusal} (Ok c) (cond b (Ok k) (Err MemoryTooShort))
-unfolding counted
-counted_some true k c e = ap counted e
-counted_some false k c e = ap counted e
-
-pub counted_none : (b : Bool) (k : ℕ) → None ≡ cond b (Some k) None → ◌≡◌ {A = Result ℕ Refusal} (Err MemoryTooShort) (cond b (Ok k) (Err MemoryTooShort))
-unfolding counted
-counted_none true k e = ap counted e
-counted_none false k e = refl
-
 -- what stands at a stamp decides
 
 module _ (n : ℕ) (x : CHead) (s : ℕ) where
-  pub asked_other : (z : CSlot) → ((y : CName) (o : Option Body) → z ≡ Data y o → ⊥) → slot_of z ≡ (model x).queue s → ask_holders n (model x) s ≡ Err NoDataSlot
-  unfolding ask_holders
-  asked_other z no_data e = go (leb x.queue.base s) (ap (holders_at n (model x) s) (sym e) ∙ at z no_data)
-    where
-      at : (y : CSlot) → ((w : CName) (o : Option Body) → y ≡ Data w o → ⊥) → holders_at n (model x) s (slot_of y) ≡ Err NoDataSlot
-      at Unknown h = refl
-      at (CAck i ns) h = refl
-      at (Data w o) h = absurd (h w o refl)
-
-      go : (b : Bool) → holders_at n (model x) s ((model x).queue s) ≡ Err NoDataSlot → cond b (holders_at n (model x) s ((model x).queue s)) (Err NoDataSlot) ≡ Err NoDataSlot
-      go true h = h
-      go false h = refl
-
   data_known : (y : CName) (o : Option Body) → known (data_of y o) ≡ true
   data_known y None = refl
   data_known y (Some b) = refl
@@ -69,12 +40,6 @@ module _ (n : ℕ) (x : CHead) (s : ℕ) where
 -- what is answered, and what the memory then is
 
 module _ (n : ℕ) (h : Head) (s : ℕ) (memory : List ℕ) where
-  pub short_answer : length memory < 96 → Err MemoryTooShort ≡ holders_answer n h s memory
-  short_answer l = sym (cond-false (leb 96 (length memory)) (count_of (ask_holders n h s)) (Err MemoryTooShort) (lt-leb 96 (length memory) l))
-
-  pub short_scratch : length memory < 96 → memory ≡ holders_scratch n h s memory
-  short_scratch l = sym (cond-false (leb 96 (length memory)) (marked (ask_holders n h s) memory) memory (lt-leb 96 (length memory) l))
-
   pub long_answer : (r : Result Holders Refusal) → 96 ≤ length memory → ask_holders n h s ≡ r → count_of r ≡ holders_answer n h s memory
   long_answer r l e = ap count_of (sym e) ∙ sym (cond-true (leb 96 (length memory)) (count_of (ask_holders n h s)) (Err MemoryTooShort) (le-leb 96 (length memory) l))
 

@@ -1,8 +1,11 @@
 -- The steps of the choice of what a head sends of its own accord.
-use Rattle.std.proofs.Common.{◌≡◌, ℕ, zero, suc, ◌+◌, ◌-◌, ◌<◌, ◌≤◌, Bool, true, false, cond, ltb, List, [], ◌∷◌, ◌++◌, length, get_or, Some, None, Option, sym, refl, ap, ◌∙◌, inl, inr, append_assoc, append-nil, arith, length-append}
-use Rattle.std.proofs.lemmas.List.{get_or_past, get_or_default}
+use Rattle.std.proofs.Common.{◌≡◌, ℕ, zero, suc, ◌+◌, ◌-◌, ◌%◌, ◌<◌, ◌≤◌, Bool, true, false, map, cond, ltb, List, [], ◌∷◌, ◌++◌, length, get_or, Some, None, Option, MatchOption, subst, ◌⊎◌, sym, refl, ap, ◌∙◌, inl, inr, append_assoc, append-nil, arith, length-append}
+use Rattle.std.proofs.Math.Nat.{mod-add-mod, mod-eq_of_lt}
+use Rattle.std.proofs.lemmas.List.{map-append, get_or_past, get_or_default}
 use Rattle.std.proofs.lemmas.Bool.{lt-ltb, cond-true, cond-false, cases_lt, both_ways, ltb-true, ltb-false}
 use Rattle.frames.specs.Bounds.{after}
+use Rattle.frames.specs.declared.types.Name.{Name as CName}
+use Rattle.frames.specs.Types.{name_of}
 use Rattle.frames.specs.Values.{Name, Message, Frame, data_frame}
 use Rattle.head.specs.Head.{Head, Kept, Pending, low}
 use Rattle.head.specs.Hear.{found}
@@ -101,6 +104,28 @@ module _ (p : Pending) (s : ℕ) where
       let z : 4 - length xs ≡ 0 = omega arith in
       g ∙ (cond-false r (xs ++ x ∷ []) xs f ∙ run_over xs k (ap (λ n. run_of p s n k) z ∙ run_full k))
 
+-- one turn over a range, where a call decides whether it goes on
+
+module _ {M : Type 0} (a z b : ℕ) (r : Option M) (U : Type 0) (C : ℕ → Type 0) (o : Option ℕ) (steps : MatchOption o ((z - a ≡ 0) × (b ≡ a)) (λ x. (0 < z - a) × (x ≡ a) × (b ≡ a + 1))) (calls : MatchOption o ((r ≡ None) × U) C) where
+  pub turn_some : (m : M) → r ≡ Some m → (a < z) × (b ≡ a + 1) × C a
+  turn_some m e = go o steps calls
+    where
+      go : (q : Option ℕ) → MatchOption q ((z - a ≡ 0) × (b ≡ a)) (λ x. (0 < z - a) × (x ≡ a) × (b ≡ a + 1)) → MatchOption q ((r ≡ None) × U) C → (a < z) × (b ≡ a + 1) × C a
+      go None s c = absurd (cc (c.0, e))
+      go (Some x) s c = (omega (arith, s.0), s.2, subst C s.1 c)
+
+  pub turn_none : (z ≤ a) ⊎ C a
+  turn_none = go o steps calls
+    where
+      go : (q : Option ℕ) → MatchOption q ((z - a ≡ 0) × (b ≡ a)) (λ x. (0 < z - a) × (x ≡ a) × (b ≡ a + 1)) → MatchOption q ((r ≡ None) × U) C → (z ≤ a) ⊎ C a
+      go None s c = inl (omega (arith, s.0))
+      go (Some x) s c = inr (subst C s.1 c)
+
+-- a name pushed on a list, as it is meant
+pub pushed : (xs ys : List CName) (x : CName) (r : Bool) → ys ≡ cond r (xs ++ x ∷ []) xs → map name_of ys ≡ cond r (map name_of xs ++ name_of x ∷ []) (map name_of xs)
+pushed xs ys x true e = ap (map name_of) e ∙ map-append name_of xs (x ∷ [])
+pushed xs ys x false e = ap (map name_of) e
+
 -- the runs of the sources, one after another
 
 pub gather_over : (n : ℕ) (h : Head) (j s : ℕ) (xs : List Name) → j ≡ 0 → xs ≡ xs ++ gather n h j s (4 - length xs)
@@ -111,28 +136,32 @@ gather_more : (n : ℕ) (h : Head) (j s b : ℕ) → gather n h (suc j) s b ≡ 
 unfolding gather
 gather_more n h j s b = refl
 
-pub gather_starts : (n : ℕ) (h : Head) (xs : List Name) → xs ≡ [] → xs ++ gather n h (n - 0) h.me (4 - length xs) ≡ to_order n h
+pub gather_starts : (n : ℕ) (h : Head) (xs : List Name) → h.me < n → xs ≡ [] → xs ++ gather n h (n - 0) ((h.me + 0) % n) (4 - length xs) ≡ to_order n h
 unfolding to_order
-gather_starts n h xs e =
+gather_starts n h xs l e =
     let f : n - 0 ≡ n = omega arith in
-    ap (λ (z : List Name). z ++ gather n h (n - 0) h.me (4 - length z)) e ∙ ap (λ j. gather n h j h.me 4) f
+    let g : (h.me + 0) % n ≡ h.me = ap (λ (s : ℕ). s % n) (omega arith) ∙ mod-eq_of_lt l in
+    ap (λ (z : List Name). z ++ gather n h (n - 0) ((h.me + 0) % n) (4 - length z)) e ∙ (λ k. gather n h (f k) (g k) 4)
 
 pub low_table : (x : CHead) (s : ℕ) → low (model x) s ≡ table_of x.inbox.low s
 unfolding low
 low_table x s = sym (x.lows s)
 
-pub gather_goes_on : (n : ℕ) (x : CHead) (i j s : ℕ) (xs ys : List Name) → i ≡ suc j → ys ≡ xs ++ run_of (inbox_of x.inbox) s (4 - length xs) (suc (table_of x.inbox.low s))
-    → ys ++ gather n (model x) j (after n s) (4 - length ys) ≡ xs ++ gather n (model x) i s (4 - length xs)
-gather_goes_on n x i j s xs ys e f =
+-- the source that is i steps from this head on, and the one after it
+pub gather_goes_on : (n : ℕ) (x : CHead) (l j i : ℕ) (xs ys : List Name) → l ≡ suc j → ys ≡ xs ++ run_of (inbox_of x.inbox) ((x.me + i) % n) (4 - length xs) (suc (table_of x.inbox.low ((x.me + i) % n)))
+    → ys ++ gather n (model x) j ((x.me + (i + 1)) % n) (4 - length ys) ≡ xs ++ gather n (model x) l ((x.me + i) % n) (4 - length xs)
+gather_goes_on n x l j i xs ys e f =
     let h : Head = model x in
+    let s : ℕ = (x.me + i) % n in
+    let next : (x.me + (i + 1)) % n ≡ after n s = ap (λ (k : ℕ). k % n) (omega arith) ∙ sym (mod-add-mod (x.me + i) n 1) in
     let r : List Name = run_of (inbox_of x.inbox) s (4 - length xs) (suc (table_of x.inbox.low s)) in
     let m : List Name = run_of h.pending s (4 - length xs) (suc (low h s)) in
-    let same : m ≡ r = ap (λ l. run_of (inbox_of x.inbox) s (4 - length xs) (suc l)) (low_table x s) in
-    let l : length ys ≡ length xs + length r = ap length f ∙ length-append xs r in
+    let same : m ≡ r = ap (λ t. run_of (inbox_of x.inbox) s (4 - length xs) (suc t)) (low_table x s) in
+    let t : length ys ≡ length xs + length r = ap length f ∙ length-append xs r in
     let k : 4 - length ys ≡ 4 - length xs - length r = omega arith in
-    let g : gather n h i s (4 - length xs) ≡ r ++ gather n h j (after n s) (4 - length xs - length r) =
+    let g : gather n h l s (4 - length xs) ≡ r ++ gather n h j (after n s) (4 - length xs - length r) =
     ap (λ z. gather n h z s (4 - length xs)) e ∙ (gather_more n h j s (4 - length xs) ∙ ap (λ (z : List Name). z ++ gather n h j (after n s) (4 - length xs - length z)) same) in
-    ap (λ z. ys ++ gather n h j (after n s) z) k
+    (λ u. ys ++ gather n h j (next u) (k u))
     ∙ (ap (λ z. z ++ gather n h j (after n s) (4 - length xs - length r)) f
     ∙ (append_assoc xs r (gather n h j (after n s) (4 - length xs - length r)) ∙ ap (λ z. xs ++ z) (sym g)))
 
@@ -157,15 +186,31 @@ module _ (h : Head) where
   unfolding lowest_own
   own_nowhere k = refl
 
+-- among the b numbers from k on
+
+own_at : (h : Head) (b k i : ℕ) (m : Message) → i < b → ((j : ℕ) → j < i → kept_at h.pending h.me (k + j) ≡ None) → kept_at h.pending h.me (k + i) ≡ Some m → lowest_own h b k ≡ data_frame m ∷ []
+own_at h zero k i m l before here = absurd (omega arith)
+own_at h (suc b) k zero m l before here = let e : k ≡ k + 0 = omega arith in own_some h b k m (h.pending h.me k) refl (ap (kept_at h.pending h.me) e ∙ here)
+own_at h (suc b) k (suc i) m l before here =
+    let e : k ≡ k + 0 = omega arith in
+    own_none h b k (h.pending h.me k) refl (ap (kept_at h.pending h.me) e ∙ before 0 (omega arith))
+    ∙ own_at h b (suc k) i m (omega arith) (λ j g. ap (kept_at h.pending h.me) (omega arith) ∙ before (suc j) (omega arith)) (ap (kept_at h.pending h.me) (omega arith) ∙ here)
+
+own_not : (h : Head) (b k : ℕ) → ((j : ℕ) → j < b → kept_at h.pending h.me (k + j) ≡ None) → lowest_own h b k ≡ []
+own_not h zero k none = own_nowhere h k
+own_not h (suc b) k none =
+    let e : k ≡ k + 0 = omega arith in
+    own_none h b k (h.pending h.me k) refl (ap (kept_at h.pending h.me) e ∙ none 0 (omega arith))
+    ∙ own_not h b (suc k) (λ j g. ap (kept_at h.pending h.me) (omega arith) ∙ none (suc j) (omega arith))
+
 -- of the code's head
 module _ (x : CHead) where
-  pub own_here : (i j k : ℕ) (m : Message) → i ≡ suc j → kept_at (inbox_of x.inbox) x.me k ≡ Some m → lowest_own (model x) i k ≡ data_frame m ∷ []
-  own_here i j k m e f = ap (λ n. lowest_own (model x) n k) e ∙ own_some (model x) j k m (inbox_of x.inbox x.me k) refl f
+  pub own_found : (i : ℕ) (m : Message) → i < 4 → ((j : ℕ) → j < i → kept_at (inbox_of x.inbox) x.me (table_of x.inbox.low x.me + (j + 1)) ≡ None) → kept_at (inbox_of x.inbox) x.me (table_of x.inbox.low x.me + (i + 1)) ≡ Some m → own_message (model x) ≡ data_frame m ∷ []
+  own_found i m l before here =
+      let e = low_table x x.me in
+      own_at (model x) 4 (suc (low (model x) x.me)) i m l (λ j g. ap (kept_at (inbox_of x.inbox) x.me) (omega arith) ∙ before j g) (ap (kept_at (inbox_of x.inbox) x.me) (omega arith) ∙ here)
 
-  pub own_later : (i j k l : ℕ) → i ≡ suc j → l ≡ suc k → kept_at (inbox_of x.inbox) x.me k ≡ None → lowest_own (model x) j l ≡ lowest_own (model x) i k
-  own_later i j k l e g f = ap (lowest_own (model x) j) g ∙ sym (ap (λ n. lowest_own (model x) n k) e ∙ own_none (model x) j k (inbox_of x.inbox x.me k) refl f)
-
-  pub own_first : lowest_own (model x) 4 (table_of x.inbox.low x.me + 1) ≡ own_message (model x)
-  own_first =
-      let e : table_of x.inbox.low x.me + 1 ≡ suc (table_of x.inbox.low x.me) = omega arith in
-      ap (lowest_own (model x) 4) (e ∙ ap suc (sym (low_table x x.me)))
+  pub own_absent : ((j : ℕ) → j < 4 → kept_at (inbox_of x.inbox) x.me (table_of x.inbox.low x.me + (j + 1)) ≡ None) → own_message (model x) ≡ []
+  own_absent none =
+      let e = low_table x x.me in
+      own_not (model x) 4 (suc (low (model x) x.me)) (λ j g. ap (kept_at (inbox_of x.inbox) x.me) (omega arith) ∙ none j g)

@@ -1,7 +1,8 @@
 -- A new ACK: its own names were made, and its slots are free.
 use Rattle.std.proofs.Common.{◌≡◌, ℕ, zero, suc, ◌+◌, ◌-◌, ◌≤◌, max, Bool, true, false, cond, eqb, ltb, leb, List, [], ◌∷◌, ◌++◌, length, Some, None, Option, sym, refl, ap, ◌∙◌, subst, inl, inr, arith}
 use Rattle.std.proofs.lemmas.Bool.{cases_Bool, cases_lt, both_ways, eqb-true, and_from, and_parts, le-leb, leb-true}
-use Rattle.frames.specs.declared.types.Names.{Names}
+use Rattle.frames.specs.declared.table.Table.{Table}
+use Rattle.frames.specs.declared.types.Name.{Name as CName}
 use Rattle.frames.specs.Bounds.{after}
 use Rattle.frames.specs.Values.{Name, Ack}
 use Rattle.head.specs.Slots.{unknown, ack, bare, known, named, cells, nth_slot}
@@ -76,7 +77,7 @@ order_made n g b h xs few e = subst (AllMade g b) (sym e) (gather_made n g b h f
 
 -- its slots
 
-module _ (x : CHead) (ns : Names) (t : ℕ) (here : t ≡ end (model x)) (wide : room (model x) ≡ true) where
+module _ (x : CHead) (ns : Table CName 4) (t : ℕ) (here : t ≡ end (model x)) (wide : room (model x) ≡ true) where
   near_end : (x.queue.base ≤ t) × (t + 4 ≤ x.queue.base + 95)
   unfolding end
   near_end =
@@ -87,18 +88,18 @@ module _ (x : CHead) (ns : Names) (t : ℕ) (here : t ≡ end (model x)) (wide :
   pub new_spans : spans x.queue t ns.count ≡ true
   new_spans =
       let p = near_end in
-      let f = ns.few in
+      let f = ns.within in
       and_from (leb x.queue.base t) (leb (t + ns.count) (x.queue.base + 95)) (le-leb x.queue.base t p.0) (le-leb (t + ns.count) (x.queue.base + 95) (omega (arith, p.1)))
 
   pub new_unknown : all_unknown (model x).queue (suc ns.count) t ≡ true
   unfolding end
   new_unknown =
       let p = near_end in
-      let f = ns.few in
+      let f = ns.within in
       all_unknown_from (model x).queue (suc ns.count) t (λ u a b. (past_last_ends known (model x).queue 96 x.queue.base).beyond u (omega arith) (omega (arith, p.1)))
 
   pub new_stamps : stamps_left (model x) ≡ true → t + ns.count ≤ 1000000
   new_stamps s =
-      let f = ns.few in
+      let f = ns.within in
       let r = leb-true (end (model x) + 4) 1000000 (and_parts (leb 1 (end (model x) + 4)) (leb (end (model x) + 4) 1000000) s).1 in
       omega arith

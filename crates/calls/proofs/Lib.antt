@@ -4,7 +4,6 @@ pub mod Starting
 pub mod Submitting
 pub mod Placing
 pub mod Hearing
-pub mod Nacks
 pub mod Pendings
 pub mod Sending
 pub mod Members

@@ -1,6 +1,7 @@
 -- Placing an ACK: x the head before, q its queue with the slots set, l the numbers over it.
 use Rattle.std.proofs.Common.{◌≡◌, ℕ, suc, ◌+◌, ◌≤◌, max, true, cond, leb, List, Some, None, Option, sym, ap, ◌∙◌, subst, arith}
-use Rattle.frames.specs.declared.types.Names.{Names}
+use Rattle.frames.specs.declared.table.Table.{Table}
+use Rattle.frames.specs.declared.types.Name.{Name as CName}
 use Rattle.frames.specs.Types.{names_of}
 use Rattle.frames.proofs.Naming.{length-names_of}
 use Rattle.head.specs.Slots.{Slot, unknown, ack, bare, whole, known, named, over, cells, size}
@@ -13,7 +14,7 @@ use Rattle.store.proofs.Placing.{laid_keeps, placed_grows, placed_is}
 use Rattle.calls.specs.declared.machine.Head.{Head as CHead}
 use Rattle.calls.specs.Model.{model}
 
-module _ (x : CHead) (q : CQueue) (l : List ℕ) (t i : ℕ) (ns : Names) (eb : q.base ≡ x.queue.base) (eg : q.gone ≡ x.queue.gone)
+module _ (x : CHead) (q : CQueue) (l : List ℕ) (t i : ℕ) (ns : Table CName 4) (eb : q.base ≡ x.queue.base) (eg : q.gone ≡ x.queue.gone)
     (es : queue_of x.queue.base q.slots ≡ (λ s. over (fill_in (inbox_of x.inbox) (cells (ack_of t i ns) s)) (queue_of x.queue.base x.queue.slots s)))
     (el : (s : ℕ) → table_of l s ≡ low_of q s) where
   slots_is : queue_of q.base q.slots ≡ (λ s. over (fill_in (inbox_of x.inbox) (cells (ack_of t i ns) s)) (queue_of x.queue.base x.queue.slots s))

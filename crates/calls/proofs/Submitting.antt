@@ -1,56 +1,31 @@
 -- The rules of submit, one by one.
-use Rattle.std.proofs.Common.{◌≡◌, ℕ, suc, ◌-◌, ◌<◌, ◌≤◌, true, false, cond, ◌&&◌, eqb, leb, List, [], ◌∷◌, length, Some, Ok, Err, sym, ap, ◌∙◌, arith}
+use Rattle.std.proofs.Common.{◌≡◌, ℕ, suc, ◌-◌, ◌<◌, ◌≤◌, true, false, cond, ◌&&◌, eqb, leb, List, [], ◌∷◌, length, Some, Ok, sym, ◌∙◌, arith}
 use Rattle.std.proofs.lemmas.Bool.{le-leb, lt-leb, and_from, and_right}
-use Rattle.frames.specs.declared.refusal.Refusal.{Refusal}
 use Rattle.frames.specs.declared.refusal.Refusal.TheVariants.{BadLevel, BadBodyLength, TooManyUnordered, NumbersUsedUp}
 use Rattle.frames.specs.Bounds.{level_ok, body_length_ok, number_ok}
 use Rattle.frames.specs.Values.{data_frame}
 use Rattle.frames.specs.Made.{level_for, body_for}
-use Rattle.frames.proofs.Steps.{passed, failed}
+use Rattle.frames.proofs.Steps.{passed}
 use Rattle.head.specs.Head.{Head, Pending, low, keep}
 use Rattle.head.specs.Answers.{done, refuse, made_it}
 use Rattle.head.specs.Submit.{submit, submit_body, submit_window, submit_number, make}
 use Rattle.calls.proofs.Choosing.{pick}
 
 module _ (n l : ℕ) (b : List ℕ) (h : Head) where
-  submit_bad_level : level_ok n l ≡ false → submit n l b h ≡ refuse BadLevel h
-  unfolding submit
-  submit_bad_level e = pick (level_ok n l) false (submit_body n l b h) (refuse BadLevel h) e
-
   leveled : level_ok n l ≡ true → submit n l b h ≡ submit_body n l b h
   unfolding submit
   leveled e = pick (level_ok n l) true (submit_body n l b h) (refuse BadLevel h) e
 
-  submit_bad_length : level_ok n l ≡ true → body_length_ok (length b) ≡ false → submit n l b h ≡ refuse BadBodyLength h
-  submit_bad_length e f = leveled e ∙ pick (body_length_ok (length b)) false (submit_window n l b h) (refuse BadBodyLength h) f
-
   sized : level_ok n l ≡ true → body_length_ok (length b) ≡ true → submit n l b h ≡ submit_window n l b h
   sized e f = leveled e ∙ pick (body_length_ok (length b)) true (submit_window n l b h) (refuse BadBodyLength h) f
 
-  submit_unordered : level_ok n l ≡ true → body_length_ok (length b) ≡ true → 4 ≤ h.made - low h h.me → submit n l b h ≡ refuse TooManyUnordered h
-  submit_unordered e f g = sized e f ∙ pick (leb 4 (h.made - low h h.me)) true (refuse TooManyUnordered h) (submit_number n l b h) (le-leb 4 (h.made - low h h.me) g)
-
   counted : level_ok n l ≡ true → body_length_ok (length b) ≡ true → h.made - low h h.me < 4 → submit n l b h ≡ submit_number n l b h
   counted e f g = sized e f ∙ pick (leb 4 (h.made - low h h.me)) false (refuse TooManyUnordered h) (submit_number n l b h) (lt-leb 4 (h.made - low h h.me) g)
-
-  submit_used_up : level_ok n l ≡ true → body_length_ok (length b) ≡ true → h.made - low h h.me < 4 → 500000 ≤ h.made → submit n l b h ≡ refuse NumbersUsedUp h
-  submit_used_up e f g k = counted e f g ∙ pick (number_ok (suc h.made)) false (make n l b h) (refuse NumbersUsedUp h) (and_right (leb 1 (suc h.made)) (leb (suc h.made) 500000) (lt-leb (suc h.made) 500000 (omega arith)))
 
   submit_makes : level_ok n l ≡ true → body_length_ok (length b) ≡ true → h.made - low h h.me < 4 → h.made < 500000 → submit n l b h ≡ make n l b h
   submit_makes e f g k = counted e f g ∙ pick (number_ok (suc h.made)) true (make n l b h) (refuse NumbersUsedUp h) (and_from (leb 1 (suc h.made)) (leb (suc h.made) 500000) (le-leb 1 (suc h.made) (omega arith)) (le-leb (suc h.made) 500000 (omega arith)))
 
   -- by what the level and the body of the code answer
-
-  pub level_refused : (d : Refusal) → Err d ≡ level_for n l → refuse d h ≡ submit n l b h
-  level_refused d e =
-      let q = failed (level_ok n l) l d BadLevel e in
-      ap (λ r. refuse r h) q.1 ∙ sym (submit_bad_level q.0)
-
-  pub body_refused : (v : ℕ) (d : Refusal) → Ok v ≡ level_for n l → Err d ≡ body_for b → refuse d h ≡ submit n l b h
-  body_refused v d e f =
-      let p = passed (level_ok n l) l v BadLevel e in
-      let q = failed (body_length_ok (length b)) b d BadBodyLength f in
-      ap (λ r. refuse r h) q.1 ∙ sym (submit_bad_length p.0 q.0)
 
   module _ (v : ℕ) (w : List ℕ) (e : Ok v ≡ level_for n l) (f : Ok w ≡ body_for b) where
     lv : (level_ok n l ≡ true) × (v ≡ l)
@@ -60,10 +35,10 @@ module _ (n l : ℕ) (b : List ℕ) (h : Head) where
     bd = passed (body_length_ok (length b)) b w BadBodyLength f
 
     pub unordered_refused : 4 ≤ h.made - low h h.me → refuse TooManyUnordered h ≡ submit n l b h
-    unordered_refused g = sym (submit_unordered lv.0 bd.0 g)
+    unordered_refused g = sym (sized lv.0 bd.0 ∙ pick (leb 4 (h.made - low h h.me)) true (refuse TooManyUnordered h) (submit_number n l b h) (le-leb 4 (h.made - low h h.me) g))
 
     pub used_up_refused : h.made - low h h.me < 4 → 500000 ≤ h.made → refuse NumbersUsedUp h ≡ submit n l b h
-    used_up_refused g k = sym (submit_used_up lv.0 bd.0 g k)
+    used_up_refused g k = sym (counted lv.0 bd.0 g ∙ pick (number_ok (suc h.made)) false (make n l b h) (refuse NumbersUsedUp h) (and_right (leb 1 (suc h.made)) (leb (suc h.made) 500000) (lt-leb (suc h.made) 500000 (omega arith))))
 
     pub message_made : (k : ℕ) (p : Pending) → h.made - low h h.me < 4 → h.made < 500000 → k ≡ suc h.made → p ≡ (λ s i. cond (eqb s h.me && eqb i k) (Some (record { level = v; body = w })) (h.pending s i))
         → done n (made_it k) (record { me = h.me; made = k; base = h.base; queue = h.queue; gone = h.gone; pending = p; due = h.due; ticks = h.ticks; tries = h.tries }) (data_frame (record { name = record { source = h.me; number = k; level = v }; body = w }) ∷ []) ≡ submit n l b h

@@ -1,31 +1,25 @@
 -- The rules of tick, one by one.
-use Rattle.std.proofs.Common.{◌≡◌, ℕ, suc, ◌<◌, ◌≤◌, min, true, false, ◌&&◌, ltb, ◌⊎◌, List, [], ◌∷◌, ◌++◌, length, Some, None, sym, refl, ap, ◌∙◌, inl, inr, arith}
+use Rattle.std.proofs.Common.{◌≡◌, ℕ, suc, ◌<◌, ◌≤◌, true, false, ◌&&◌, ltb, ◌⊎◌, List, [], ◌∷◌, length, Some, sym, refl, ap, ◌∙◌, inl, inr, arith}
 use Rattle.std.proofs.lemmas.Bool.{lt-ltb, le-ltb}
 use Rattle.frames.specs.Values.{Name, Ack, Frame, ack_frame, nack_frame}
-use Rattle.head.specs.Head.{Head, mark, end, top, holds, room, stamps_left, with_clock, place}
+use Rattle.head.specs.Head.{Head, mark, end, holds, room, stamps_left, with_clock, place}
 use Rattle.head.specs.Upkeep.{settled}
 use Rattle.head.specs.Answers.{done, idle, fired}
-use Rattle.head.specs.Tick.{wait, asked, busy, own_again, own_message, fire, fire_ack, tick_with, tick_token, tick_due, tick}
+use Rattle.head.specs.Tick.{wait, asked, busy, own_message, fire, fire_ack, tick_with, tick_token, tick_due, tick}
 use Rattle.head.specs.Turn.{to_order, new_ack}
-use Rattle.store.specs.declared.types.Frames.{Frames}
+use Rattle.frames.specs.declared.table.Table.{Table}
+use Rattle.frames.specs.declared.types.Frame.{Frame as CFrame}
 use Rattle.store.specs.Puts.{puts_of}
 use Rattle.store.proofs.Looking.{length-puts_of}
 use Rattle.calls.proofs.Choosing.{pick}
 
 module _ (n : ℕ) (h : Head) where
-  pub tick_idles : (k : ℕ) → k ≡ suc h.ticks → k < wait h.tries → tick n h ≡ done n idle (with_clock h k h.tries) []
-  unfolding tick
-  tick_idles k e l = pick (ltb (suc h.ticks) (wait h.tries)) true (done n idle (with_clock h (suc h.ticks) h.tries) []) (tick_due n h) (lt-ltb (suc h.ticks) (wait h.tries) (omega arith)) ∙ ap (λ t. done n idle (with_clock h t h.tries) []) (sym e)
-
   tick_fires : wait h.tries ≤ suc h.ticks → tick n h ≡ tick_due n h
   unfolding tick
   tick_fires l = pick (ltb (suc h.ticks) (wait h.tries)) false (done n idle (with_clock h (suc h.ticks) h.tries) []) (tick_due n h) (le-ltb (suc h.ticks) (wait h.tries) l)
 
   pub tick_lacks : wait h.tries ≤ suc h.ticks → mark h < end h → tick n h ≡ fire n h (nack_frame h.me (asked n h) (mark h) ∷ [])
   tick_lacks l m = tick_fires l ∙ pick (ltb (mark h) (end h)) true (fire n h (nack_frame h.me (asked n h) (mark h) ∷ [])) (tick_token n h) (lt-ltb (mark h) (end h) m)
-
-  pub tick_passes : wait h.tries ≤ suc h.ticks → end h ≤ mark h → tick n h ≡ tick_token n h
-  tick_passes l m = tick_fires l ∙ pick (ltb (mark h) (end h)) false (fire n h (nack_frame h.me (asked n h) (mark h) ∷ [])) (tick_token n h) (le-ltb (mark h) (end h) m)
 
   -- names to order, or traffic of late
   with_cause : (xs : List Name) → (0 < length xs) ⊎ (busy h.queue 96 h.base n ≡ true) → tick_with n h xs ≡ fire_ack n h xs
@@ -38,14 +32,7 @@ module _ (n : ℕ) (h : Head) where
 
   -- what fired, by its frames
 
-  pub fire_as : (ps : Frames) (fs os ms : List Frame) (r : ℕ) → puts_of ps ≡ fs ++ (os ++ ms) → os ≡ own_again h (top h) → ms ≡ own_message h → r ≡ min 15 (suc h.tries)
-      → record { answer = fired ps.count; head = settled n (with_clock h 0 r); puts = puts_of ps; issued = None } ≡ fire n h fs
-  fire_as ps fs os ms r p a m e =
-      let q : puts_of ps ≡ fs ++ (own_again h (top h) ++ own_message h) = p ∙ (λ j. fs ++ (a j ++ m j)) in
-      let l : ps.count ≡ length (fs ++ (own_again h (top h) ++ own_message h)) = sym (length-puts_of ps) ∙ ap length q in
-      λ j. record { answer = fired (l j); head = settled n (with_clock h 0 (e j)); puts = q j; issued = None }
-
-  pub fire_ack_as : (ps : Frames) (xs : List Name) (a : Ack) (g : Head) (ms : List Frame) → puts_of ps ≡ ack_frame a ∷ ms → a ≡ new_ack h xs → g ≡ place h (new_ack h xs) → ms ≡ own_message g
+  pub fire_ack_as : (ps : Table CFrame 3) (xs : List Name) (a : Ack) (g : Head) (ms : List Frame) → puts_of ps ≡ ack_frame a ∷ ms → a ≡ new_ack h xs → g ≡ place h (new_ack h xs) → ms ≡ own_message g
       → record { answer = fired ps.count; head = settled n g; puts = puts_of ps; issued = Some a } ≡ fire_ack n h xs
   fire_ack_as ps xs a g ms p e f m =
       let o : ms ≡ own_message (place h (new_ack h xs)) = m ∙ ap own_message f in

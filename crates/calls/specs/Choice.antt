@@ -1,10 +1,10 @@
 -- Messages that are pending, by source and number.
 use Rattle.std.specs.Prelude.{ℕ, Some, None, Option}
 use Rattle.frames.specs.Values.{Message}
-use Rattle.frames.specs.Types.{message_of}
+use Rattle.frames.specs.Types.{message_meant}
 use Rattle.head.specs.Head.{Kept, Pending}
 use Rattle.head.specs.Ranges.{kept_message}
-use Rattle.calls.specs.declared.answers.Message.{Message as CMessage}
+use Rattle.frames.specs.declared.types.Message.{Message as CMessage}
 
 -- what is kept, as a message with its source and number
 abbrev pub kept_under : ℕ → ℕ → Option Kept → Option Message
@@ -18,4 +18,4 @@ kept_at p s k = kept_under s k (p s k)
 -- a message of the code
 abbrev pub sent_of : Option CMessage → Option Message
 sent_of None = None
-sent_of (Some m) = Some (message_of m.name m.body)
+sent_of (Some m) = Some (message_meant m)

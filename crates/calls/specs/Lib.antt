@@ -2,5 +2,5 @@ pub mod Model
 pub mod Answers
 pub mod Choice
 pub mod Asking
-pub mod Sendable
+pub mod Unmade
 pub mod Members

@@ -1,6 +1,5 @@
-// What the calls answer.
-use frames::types::{Body, Frame, Name};
-use store::look::Top;
+// What the calls answer: the words of docs/PROTOCOL.md, one case for each. So an answer of a single case, or of one beside a case with nothing, is no plainer as a number or an Option.
+use frames::types::{Ack, Message};
 use store::types::Frames;
 
 // What a call did: its answer, the frames that it puts, in this order, and the ACK that it issued, if any.
@@ -8,41 +7,16 @@ use store::types::Frames;
 pub struct Done<A> {
     pub answer: A,
     pub puts: Frames,
-    pub issued: Option<Top>,
+    pub issued: Option<Ack>,
 }
 
-#[derive(Clone, Copy)]
-pub struct Message {
-    pub name: Name,
-    pub body: Body,
-}
-
-// The new message. It is put as a Data frame.
-#[derive(Clone, Copy)]
-pub enum Submitted {
-    Made { name: Name, body: Body },
-}
-
-#[derive(Clone, Copy)]
-pub enum Heard {
-    Quiet,
-    Kept,
-    Filled,
-    Repeat,
-    Far,
-    Placed,
-    Crowded,
-    Resent { frame: Frame },
-    Nothing,
-}
-
-// What a submit answers, where the frame to put stands beside it: the number of the new message.
+// Made: with the number of the new message, whose Data frame is put.
 #[derive(Clone, Copy)]
 pub enum Submission {
     Made { number: u32 },
 }
 
-// What hear answers, where the frame to put stands beside it.
+// Resent: a frame is put, and only then.
 #[derive(Clone, Copy)]
 pub enum Hearing {
     Quiet,

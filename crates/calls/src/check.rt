@@ -1,26 +1,23 @@
 // Whether an ACK contradicts what this head knows.
 ghost use Rattle.std.specs.Prelude.{◌≡◌, ℕ, suc, ◌+◌, Bool, true, false, not, ◌&&◌, ◌||◌, length, nat_le};
-ghost use Rattle.frames.specs.Types.{name_of, names_of};
+ghost use Rattle.frames.specs.Types.{ack_meant, level_number, name_of, names_of};
 ghost use Rattle.head.specs.Queue.{place_of, all_unknown};
 ghost use Rattle.head.specs.Head.{low};
 ghost use Rattle.head.specs.Hear.{found, own_above, other_level, bad_name, bad_names, contradicts as m_contradicts};
-ghost use Rattle.store.specs.Parts.{ack_of};
 ghost use Rattle.calls.specs.Model.{model};
 
 use crate::machine::Head;
-use frames::types::{Name, Names};
+use frames::types::{Ack, Name, Names};
 use store::same::is_twice;
 
 impl Head {
     fn is_slotted(&self, name: Name) -> bool
         ensures { result ≡ found (place_of (model self.now).queue (name_of name) 96 (model self.now).base) }
     {
-        match self.queue.find(name) {
-            None => false,
-            Some(_) => true,
-        }
+        self.queue.find(name).is_some()
     }
 
+    #[tactic(auto, using(crate::proofs::Lows::low_is))]
     fn is_old(&self, name: Name) -> bool
         ensures { result ≡ nat_le name.number (low (model self.now) name.source) }
     {
@@ -36,12 +33,11 @@ impl Head {
 
     // Pending at another level.
     fn is_otherwise(&self, name: Name) -> bool
-        ensures { result ≡ other_level name.level.number ((model self.now).pending name.source name.number) }
+        ensures { result ≡ other_level (level_number name.level) ((model self.now).pending name.source name.number) }
     {
-        match self.inbox.waiting(name) {
-            None => false,
-            Some(k) => name.level.number != k.level.number,
-        }
+        self.inbox
+            .waiting(name)
+            .is_some_and(|kept| name.level != kept.level)
     }
 
     fn is_bad(&self, name: Name) -> bool
@@ -56,24 +52,22 @@ impl Head {
     fn any_bad(&self, names: Names) -> bool
         ensures { result ≡ bad_names (model self.now) (names_of names) }
     {
-        for i in 0..names.count as usize {
-            if self.is_bad(names.all[i]) {
-                return true;
-            }
-        }
-        false
+        names.as_slice().iter().any(|name| self.is_bad(*name))
     }
 
     // A slot of the ACK's block is not unknown.
-    fn is_taken(&self, stamp: u32, names: Names) -> bool
-        ensures { result ≡ not (all_unknown (model self.now).queue (suc (length (names_of names))) stamp) }
+    fn is_taken(&self, ack: Ack) -> bool
+        ensures { result ≡ not (all_unknown (model self.now).queue (suc (length (names_of ack.names))) ack.stamp) }
     {
-        !self.queue.is_free(stamp, names.count + 1)
+        !self.queue.is_free(ack.stamp, ack.names.count + 1)
     }
 
-    pub(crate) fn contradicts(&self, stamp: u32, issuer: u8, names: Names) -> bool
-        ensures { result ≡ m_contradicts (model self.now) (ack_of stamp issuer names) }
+    pub(crate) fn contradicts(&self, ack: Ack) -> bool
+        ensures { result ≡ m_contradicts (model self.now) (ack_meant ack) }
     {
-        issuer == self.me || self.is_taken(stamp, names) || is_twice(names) || self.any_bad(names)
+        ack.issuer == self.me
+            || self.is_taken(ack)
+            || is_twice(ack.names)
+            || self.any_bad(ack.names)
     }
 }

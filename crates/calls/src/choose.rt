@@ -1,4 +1,4 @@
-// The choice of what a head sends of its own accord: the names of its next ACK, and its own first message.
+// The choice of what a member sends of its own accord: the names of its next ACK, and its own first message.
 ghost use Rattle.std.specs.Prelude.{◌≡◌, suc, ◌+◌, ◌-◌, ◌<◌, ◌++◌, length};
 ghost use Rattle.frames.specs.Types.{names_of};
 ghost use Rattle.head.specs.Tick.{own_message};
@@ -6,85 +6,60 @@ ghost use Rattle.head.specs.Turn.{run_of, to_order};
 ghost use Rattle.store.specs.Look.{put_of};
 ghost use Rattle.store.specs.Parts.{inbox_of, table_of};
 ghost use Rattle.calls.specs.Choice.{kept_at, sent_of};
-ghost use Rattle.calls.specs.Model.{model};
-ghost use Rattle.calls.specs.Sendable.{Sendable};
+ghost use Rattle.calls.specs.Members.{model_of};
 
-use crate::answers::Message;
-use crate::machine::Head;
-use frames::types::{Frame, Name, Names};
+use crate::member::Member;
+use frames::types::{Frame, Message, Name, Names};
 
-impl Head {
+impl Member {
     // What is pending of a source, at a place of its window.
     fn message(&self, source: u8, place: u32) -> Option<Message>
         requires head { source < 8 }
         requires near { place < 4 }
-        requires sendable { Sendable (model self.now) }
-        ensures { sent_of result ≡ kept_at (inbox_of self.now.inbox) source (table_of self.now.inbox.low source + (place + 1)) }
+        ensures { sent_of result ≡ kept_at (inbox_of self.now.head.inbox) source (table_of self.now.head.inbox.low source + (place + 1)) }
     {
-        let window = self.inbox.pending[source as usize];
-        let kept = window.kept[place as usize];
-        match kept {
-            None => None,
-            Some(message) => {
-                let number = self.inbox.low[source as usize] + (place + 1);
-                let name = Name {
-                    source,
-                    number,
-                    level: message.level,
-                };
-                Some(Message {
-                    name,
-                    body: message.body,
-                })
-            }
-        }
+        let window = self.head.inbox.pending[source as usize];
+        let kept = window.kept[place as usize]?;
+        let name = Name {
+            source,
+            number: self.head.inbox.low[source as usize] + (place + 1),
+            level: kept.level,
+        };
+        Some(Message {
+            name,
+            body: kept.body,
+        })
     }
 
     // Adds the run of a source that begins after its low, while there is room.
     fn add_run(&self, source: u8, names: &mut Names)
         requires head { source < 8 }
-        requires sendable { Sendable (model self.now) }
-        ensures { names_of names.new ≡ names_of names.old ++ run_of (inbox_of self.now.inbox) source (4 - length (names_of names.old)) (suc (table_of self.now.inbox.low source)) }
+        ensures { names_of names.new ≡ names_of names.old ++ run_of (inbox_of self.now.head.inbox) source (4 - length (names_of names.old)) (suc (table_of self.now.head.inbox.low source)) }
     {
-        for place in 0..4u32 {
-            match self.message(source, place) {
-                None => return,
-                Some(message) => {
-                    if !names.push(message.name) {
-                        return;
-                    }
-                }
+        for message in (0..4).map_while(|place| self.message(source, place)) {
+            if !names.push(message.name) {
+                return;
             }
         }
     }
 
     // Up to four names to order: the run of each source, from this head's own on round the ring.
     pub(crate) fn gather(&self) -> Names
-        requires { Sendable (model self.now) }
-        ensures { names_of result ≡ to_order self.now.size.heads (model self.now) }
+        ensures { names_of result ≡ to_order self.now.head.size.heads (model_of self.now) }
     {
+        let heads = self.head.size.heads;
         let mut names = Names::none();
-        let mut source = self.me;
-        for _ in 0..self.size.heads {
-            self.add_run(source, &mut names);
-            source = (source + 1) % self.size.heads;
+        for step in 0..heads {
+            self.add_run((self.head.me + step) % heads, &mut names);
         }
         names
     }
 
     // The Data frame of this head's own pending message with the lowest number.
     pub(crate) fn lowest_own(&self) -> Option<Frame>
-        requires { Sendable (model self.now) }
-        ensures { put_of result ≡ own_message (model self.now) }
+        ensures { put_of result ≡ own_message (model_of self.now) }
     {
-        for place in 0..4 {
-            if let Some(message) = self.message(self.me, place) {
-                return Some(Frame::Data {
-                    name: message.name,
-                    body: message.body,
-                });
-            }
-        }
-        None
+        let message = (0..4).find_map(|place| self.message(self.head.me, place))?;
+        Some(Frame::Data(message))
     }
 }

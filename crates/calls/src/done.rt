@@ -1,12 +1,11 @@
 // Makes what a call did.
-ghost use Rattle.std.specs.Prelude.{◌≡◌, [], None};
+ghost use Rattle.std.specs.Prelude.{◌≡◌, None};
 ghost use Rattle.store.specs.Look.{put_of};
 ghost use Rattle.store.specs.Puts.{puts_of};
-ghost use Rattle.calls.specs.Answers.{heard, heard_puts, hearing};
 
-use crate::answers::{Done, Heard, Hearing};
+use crate::answers::Done;
 use frames::types::Frame;
-use store::types::Frames;
+use store::put::frames_there;
 
 impl<A> Done<A> {
     // An answer, with the frame to put, if there is one.
@@ -17,29 +16,8 @@ impl<A> Done<A> {
     {
         Done {
             answer,
-            puts: Frames::of(frame, None, None),
+            puts: frames_there(frame, None, None),
             issued: None,
-        }
-    }
-}
-
-impl Heard {
-    // With the frame to put, if a NACK was answered.
-    pub fn done(self) -> Done<Hearing>
-        ensures answer { hearing result.answer ≡ heard self }
-        ensures puts { puts_of result.puts ≡ heard_puts self }
-        ensures issued { result.issued ≡ None }
-    {
-        match self {
-            Heard::Quiet => Done::new(Hearing::Quiet, None),
-            Heard::Kept => Done::new(Hearing::Kept, None),
-            Heard::Filled => Done::new(Hearing::Filled, None),
-            Heard::Repeat => Done::new(Hearing::Repeat, None),
-            Heard::Far => Done::new(Hearing::Far, None),
-            Heard::Placed => Done::new(Hearing::Placed, None),
-            Heard::Crowded => Done::new(Hearing::Crowded, None),
-            Heard::Resent { frame } => Done::new(Hearing::Resent, Some(frame)),
-            Heard::Nothing => Done::new(Hearing::Nothing, None),
         }
     }
 }

@@ -13,7 +13,7 @@ impl Head {
     pub fn new(heads: u8, me: u8) -> Result<Head, Refusal>
         ensures { meant in_ring result ≡ head_for heads me }
     {
-        let size = RingSize::new(heads)?;
+        let size = RingSize::try_from(heads)?;
         if me >= size.heads {
             return Err(Refusal::NoSuchHead);
         }

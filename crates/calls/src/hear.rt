@@ -1,204 +1,174 @@
 // Hearing a packet: its kind decides, and then the first rule that applies.
-ghost use Rattle.std.specs.Prelude.{◌≡◌, ◌+◌, ◌<◌, ◌≤◌, true, false, not, ◌&&◌, Some, None, Ok, ◌==◌};
-ghost use Rattle.frames.specs.Types.{name_of, message_of, asked_of};
+ghost use Rattle.std.specs.Prelude.{◌≡◌, Bool, cond, if◌then◌else◌, Ok, Err, ◌+◌, ◌<◌, ◌≤◌, true, false, not, ◌&&◌, Some, None, ◌==◌};
+ghost use Rattle.frames.specs.Types.{ack_meant, asked_of, body_of, frame_of, level_number, message_meant, name_of};
+ghost use Rattle.frames.specs.Values.{frame_ok};
 ghost use Rattle.head.specs.Slots.{named};
 ghost use Rattle.head.specs.Queue.{names_it};
-ghost use Rattle.head.specs.Hear.{hear_slot, hear_unslotted, hear_data as m_hear_data, hear_ack as m_hear_ack, hear_nack as m_hear_nack, hear as m_hear, asks};
-ghost use Rattle.store.specs.Parts.{ack_of};
+ghost use Rattle.head.specs.Hear.{hear_slot, hear_unslotted, same_kept, hear_data as m_hear_data, hear_ack as m_hear_ack, hear_nack as m_hear_nack, hear_frame, hear as m_hear, asks};
+ghost use Rattle.head.specs.Upkeep.{settled};
 ghost use Rattle.calls.specs.Model.{model};
-ghost use Rattle.calls.specs.Answers.{did, does, heard_before, heard_after, hearing};
+ghost use Rattle.calls.specs.Answers.{did, does, does_before, hears_before, hearing};
 
-use crate::answers::{Done, Heard, Hearing};
+use crate::answers::{Done, Hearing};
 use crate::machine::Head;
 use frames::read::read;
 use frames::refusal::Refusal;
-use frames::types::{Body, Frame, Name, Names, To};
+use frames::types::{Ack, Frame, Message, Nack, To};
 use store::same::{is_body, is_list};
-use store::types::Slot;
+use store::types::{Kept, Slot};
+
+// What is known under its number or stamp already: a repeat where it is equal, otherwise a contradiction.
+fn repeated(equal: bool) -> Result<Hearing, Refusal>
+    ensures { result ≡ (if equal then Ok Hearing.Repeat else Err Refusal.Contradiction) }
+{
+    equal
+        .then_some(Hearing::Repeat)
+        .ok_or(Refusal::Contradiction)
+}
+
+// Equal to what is pending under its number.
+fn is_kept(message: Message, kept: Kept) -> bool
+    ensures { result ≡ same_kept (message_meant message) (record { level = level_number kept.level; body = body_of kept.body }) }
+{
+    message.name.level == kept.level && is_body(message.body, kept.body)
+}
 
 impl Head {
     // The slot at a place names the message.
-    fn take_slotted(&mut self, i: usize, name: Name, body: Body) -> Result<Heard, Refusal>
+    #[tactic(auto, using(crate::proofs::Hearing::slot_whole, crate::proofs::Hearing::slot_rest), unfolding(head::specs::Head::fill))]
+    fn take_slotted(&mut self, i: usize, message: Message) -> Result<Hearing, Refusal>
         requires place { i < 96 }
-        requires named { names_it (name_of name) (named ((model self.old).queue (self.old.queue.base + i))) ≡ true }
+        requires named { names_it (name_of message.name) (named ((model self.old).queue (self.old.queue.base + i))) ≡ true }
         ensures size { self.new.size ≡ self.old.size }
-        ensures after { heard_before self.old.size.heads result (model self.new) ≡ hear_slot self.old.size.heads (model self.old) (message_of name body) (self.old.queue.base + i) ((model self.old).queue (self.old.queue.base + i)) }
+        ensures after { hears_before self.old.size.heads result (model self.new) ≡ hear_slot self.old.size.heads (model self.old) (message_meant message) (self.old.queue.base + i) ((model self.old).queue (self.old.queue.base + i)) }
     {
-        let slot = self.queue.slots[i];
-        match slot {
-            Slot::Data { name: x, body: had } => {
-                if name.level.number != x.level.number {
-                    return Err(Refusal::Contradiction);
-                }
-                match had {
-                    Some(b) => {
-                        if is_body(body, b) {
-                            Ok(Heard::Repeat)
-                        } else {
-                            Err(Refusal::Contradiction)
-                        }
-                    }
-                    None => {
-                        self.queue.fill(i, body);
-                        self.ticks = 0;
-                        self.tries = 0;
-                        Ok(Heard::Filled)
-                    }
-                }
-            }
-            _ => Err(Refusal::Contradiction),
+        let slot = self.queue.at(self.queue.base as u64 + i as u64);
+        let Slot::Data { name, body } = slot else {
+            return Err(Refusal::Contradiction);
+        };
+        if message.name.level != name.level {
+            return Err(Refusal::Contradiction);
         }
+        let Some(body) = body else {
+            self.queue.fill(i, message.body);
+            self.ticks = 0;
+            self.tries = 0;
+            return Ok(Hearing::Filled);
+        };
+        repeated(is_body(message.body, body))
     }
 
     // No slot names the message.
-    fn take_unslotted(&mut self, name: Name, body: Body) -> Result<Heard, Refusal>
+    #[tactic(auto, using(crate::proofs::Lows::low_is, crate::proofs::Lows::near), unfolding(head::specs::Head::keep))]
+    fn take_unslotted(&mut self, message: Message) -> Result<Hearing, Refusal>
         ensures size { self.new.size ≡ self.old.size }
-        ensures after { heard_before self.old.size.heads result (model self.new) ≡ hear_unslotted self.old.size.heads (model self.old) (message_of name body) }
+        ensures after { hears_before self.old.size.heads result (model self.new) ≡ hear_unslotted self.old.size.heads (model self.old) (message_meant message) }
     {
+        let name = message.name;
         let low = self.inbox.low[name.source as usize];
         if name.number <= low {
-            return Ok(Heard::Repeat);
+            return Ok(Hearing::Repeat);
         }
         if name.number - low > 4 {
-            return Ok(Heard::Far);
+            return Ok(Hearing::Far);
         }
-        match self.inbox.waiting(name) {
-            Some(k) => {
-                if name.level.number == k.level.number && is_body(body, k.body) {
-                    Ok(Heard::Repeat)
-                } else {
-                    Err(Refusal::Contradiction)
-                }
-            }
-            None => {
-                self.inbox.keep(name, body);
-                Ok(Heard::Kept)
-            }
-        }
+        let Some(kept) = self.inbox.waiting(name) else {
+            self.inbox.keep(message);
+            return Ok(Hearing::Kept);
+        };
+        repeated(is_kept(message, kept))
     }
 
     // A Data frame, before the upkeep.
-    fn take_data(&mut self, name: Name, body: Body) -> Result<Heard, Refusal>
+    #[tactic(auto, unfolding(head::specs::Hear::hear_data))]
+    fn take_data(&mut self, message: Message) -> Result<Hearing, Refusal>
         ensures size { self.new.size ≡ self.old.size }
-        ensures after { heard_before self.old.size.heads result (model self.new) ≡ m_hear_data self.old.size.heads (message_of name body) (model self.old) }
+        ensures after { hears_before self.old.size.heads result (model self.new) ≡ m_hear_data self.old.size.heads (message_meant message) (model self.old) }
     {
-        if self.is_own_above(name) {
+        if self.is_own_above(message.name) {
             return Err(Refusal::Contradiction);
         }
-        match self.queue.find(name) {
-            Some(i) => self.take_slotted(i, name, body),
-            None => self.take_unslotted(name, body),
+        match self.queue.find(message.name) {
+            Some(i) => self.take_slotted(i, message),
+            None => self.take_unslotted(message),
         }
     }
 
     // An ACK, before the upkeep.
-    fn take_ack(&mut self, stamp: u32, issuer: u8, names: Names) -> Result<Heard, Refusal>
-        requires { stamp + names.count ≤ 1000000 }
+    #[tactic(auto, using(crate::proofs::Hearing::new_own), unfolding(head::specs::Hear::hear_ack))]
+    fn take_ack(&mut self, ack: Ack) -> Result<Hearing, Refusal>
+        requires { ack.stamp + ack.names.count ≤ 1000000 }
         ensures size { self.new.size ≡ self.old.size }
-        ensures after { heard_before self.old.size.heads result (model self.new) ≡ m_hear_ack self.old.size.heads (ack_of stamp issuer names) (model self.old) }
+        ensures after { hears_before self.old.size.heads result (model self.new) ≡ m_hear_ack self.old.size.heads (ack_meant ack) (model self.old) }
     {
-        if stamp < self.queue.base {
-            return Ok(Heard::Repeat);
+        if ack.stamp < self.queue.base {
+            return Ok(Hearing::Repeat);
         }
-        if !self.queue.has_places(stamp, names.count) {
-            return Ok(Heard::Crowded);
+        if !self.queue.has_places(ack.stamp, ack.names.count) {
+            return Ok(Hearing::Crowded);
         }
-        let slot = self.queue.at(stamp as u64);
-        if let Slot::Ack {
-            issuer: i,
-            names: ns,
-        } = slot
-        {
-            return if i == issuer && is_list(ns, names) {
-                Ok(Heard::Repeat)
-            } else {
-                Err(Refusal::Contradiction)
-            };
+        let slot = self.queue.at(ack.stamp as u64);
+        if let Slot::Ack { issuer, names } = slot {
+            return repeated(issuer == ack.issuer && is_list(names, ack.names));
         }
-        if self.contradicts(stamp, issuer, names) {
+        if self.contradicts(ack) {
             return Err(Refusal::Contradiction);
         }
-        self.place(stamp, issuer, names);
-        Ok(Heard::Placed)
-    }
-
-    fn hear_data(&mut self, name: Name, body: Body) -> Result<Heard, Refusal>
-        ensures size { self.new.size ≡ self.old.size }
-        ensures after { heard_after result (model self.new) ≡ m_hear_data self.old.size.heads (message_of name body) (model self.old) }
-    {
-        let answer = self.take_data(name, body)?;
-        self.settle();
-        Ok(answer)
-    }
-
-    fn hear_ack(&mut self, stamp: u32, issuer: u8, names: Names) -> Result<Heard, Refusal>
-        requires { stamp + names.count ≤ 1000000 }
-        ensures size { self.new.size ≡ self.old.size }
-        ensures after { heard_after result (model self.new) ≡ m_hear_ack self.old.size.heads (ack_of stamp issuer names) (model self.old) }
-    {
-        let answer = self.take_ack(stamp, issuer, names)?;
-        self.settle();
-        Ok(answer)
+        self.place(ack);
+        Ok(Hearing::Placed)
     }
 
     // A NACK from another head asks this one.
-    fn is_asked(&self, from: u8, to: To) -> bool
-        ensures { result ≡ (asks (asked_of to) self.now.me && not (from == self.now.me)) }
+    fn is_asked(&self, nack: Nack) -> bool
+        ensures { result ≡ (asks (asked_of nack.to) self.now.me && not (nack.from == self.now.me)) }
     {
-        match to {
-            To::Head(head) => head == self.me && from != self.me,
-            To::Everyone => from != self.me,
+        match nack.to {
+            To::Head(head) => head == self.me && nack.from != self.me,
+            To::Everyone => nack.from != self.me,
         }
     }
 
     // A NACK, before the upkeep: the frame of a full slot is put again.
-    fn take_nack(&self, from: u8, to: To, stamp: u32) -> Heard
-        ensures { heard_before self.now.size.heads (Ok result) (model self.now) ≡ m_hear_nack self.now.size.heads from (asked_of to) stamp (model self.now) }
+    #[tactic(auto, unfolding(head::specs::Hear::hear_nack))]
+    fn take_nack(&self, nack: Nack) -> Done<Hearing>
+        ensures { did hearing result (settled self.now.size.heads (model self.now)) ≡ m_hear_nack self.now.size.heads nack.from (asked_of nack.to) nack.stamp (model self.now) }
     {
-        if !self.is_asked(from, to) || stamp < self.queue.base {
-            return Heard::Nothing;
+        if !self.is_asked(nack) || nack.stamp < self.queue.base {
+            return Done::new(Hearing::Nothing, None);
         }
-        match self.queue.frame_at(stamp) {
-            Some(frame) => Heard::Resent { frame },
-            None => Heard::Nothing,
+        match self.queue.frame_at(nack.stamp) {
+            Some(frame) => Done::new(Hearing::Resent, Some(frame)),
+            None => Done::new(Hearing::Nothing, None),
         }
     }
 
-    fn hear_nack(&mut self, from: u8, to: To, stamp: u32) -> Heard
+    // A frame, before the upkeep: its kind decides, and within it the first rule that applies.
+    fn take(&mut self, frame: Frame) -> Result<Done<Hearing>, Refusal>
+        requires { frame_ok self.old.size.heads (frame_of frame) ≡ true }
         ensures size { self.new.size ≡ self.old.size }
-        ensures after { heard_after (Ok result) (model self.new) ≡ m_hear_nack self.old.size.heads from (asked_of to) stamp (model self.old) }
+        ensures after { does_before self.old.size.heads hearing result (model self.new) ≡ hear_frame self.old.size.heads (frame_of frame) (model self.old) }
     {
-        let answer = self.take_nack(from, to, stamp);
-        self.settle();
-        answer
-    }
-
-    // The bytes of a packet: what they are decides, and within its kind the first rule that applies.
-    pub fn hear(&mut self, bytes: &[u8]) -> Result<Heard, Refusal>
-        ensures size { self.new.size ≡ self.old.size }
-        ensures after { heard_after result (model self.new) ≡ m_hear self.old.size.heads (Some bytes.now) (model self.old) }
-    {
-        match read(self.size, bytes)? {
-            Frame::Data { name, body } => self.hear_data(name, body),
-            Frame::Ack {
-                stamp,
-                issuer,
-                names,
-            } => self.hear_ack(stamp, issuer, names),
-            Frame::Nack { from, to, stamp } => Ok(self.hear_nack(from, to, stamp)),
+        match frame {
+            Frame::Data(message) => Ok(Done::new(self.take_data(message)?, None)),
+            Frame::Ack(ack) => Ok(Done::new(self.take_ack(ack)?, None)),
+            Frame::Nack(nack) => Ok(self.take_nack(nack)),
         }
     }
 
-    // The same, with the frame to put.
-    pub fn hear_done(&mut self, bytes: &[u8]) -> Result<Done<Hearing>, Refusal>
+    // The bytes of a packet, with the frame to put.
+    #[tactic(auto, using(head::proofs::Ranges::read_in), unfolding(head::specs::Hear::hear))]
+    pub fn hear(&mut self, bytes: &[u8]) -> Result<Done<Hearing>, Refusal>
         ensures size { self.new.size ≡ self.old.size }
         ensures after { does hearing result (model self.new) ≡ m_hear self.old.size.heads (Some bytes.now) (model self.old) }
     {
-        let answer = self.hear(bytes)?;
-        Ok(answer.done())
+        let frame = read(self.size, bytes)?;
+        let done = self.take(frame)?;
+        self.settle();
+        Ok(done)
     }
 
     // No packet came.
+    #[tactic(auto, unfolding(head::specs::Hear::hear))]
     pub fn hear_nothing(&mut self) -> Done<Hearing>
         ensures size { self.new.size ≡ self.old.size }
         ensures after { did hearing result (model self.new) ≡ m_hear self.old.size.heads None (model self.old) }

@@ -1,7 +1,7 @@
 // A head as a member of a ring: it is in its ranges, and what is pending of it can be sent.
 ghost use Rattle.head.specs.Ranges.{InRange};
 ghost use Rattle.calls.specs.Model.{model};
-ghost use Rattle.calls.specs.Sendable.{NoneUnmade};
+ghost use Rattle.calls.specs.Unmade.{NoneUnmade};
 
 use crate::machine::Head;
 

@@ -1,16 +1,14 @@
-// The five calls of a member of a ring.
+// A member of a ring: making it, and the calls that are those of its head.
 ghost use Rattle.std.specs.Prelude.{◌≡◌, Some, None};
 ghost use Rattle.frames.specs.Types.{meant};
 ghost use Rattle.head.specs.Submit.{submit as m_submit};
 ghost use Rattle.head.specs.Hear.{hear as m_hear};
-ghost use Rattle.head.specs.Turn.{turn as m_turn};
-ghost use Rattle.head.specs.Tick.{tick as m_tick};
 ghost use Rattle.head.specs.Deliver.{deliver as m_deliver};
-ghost use Rattle.calls.specs.Answers.{did, does, submission, hearing, turned, ticked, handed};
+ghost use Rattle.calls.specs.Answers.{did, does, submission, hearing, handed};
 ghost use Rattle.calls.specs.Model.{head_for};
 ghost use Rattle.calls.specs.Members.{model_of, in_ring_of};
 
-use crate::answers::{Delivered, Done, Hearing, Submission, Ticked, Turned};
+use crate::answers::{Delivered, Done, Hearing, Submission};
 use crate::machine::Head;
 use crate::member::Member;
 use frames::refusal::Refusal;
@@ -29,7 +27,7 @@ impl Member {
         ensures size { self.new.head.size ≡ self.old.head.size }
         ensures after { does submission result (model_of self.new) ≡ m_submit self.old.head.size.heads level bytes.now (model_of self.old) }
     {
-        self.head.submit_done(level, bytes)
+        self.head.submit(level, bytes)
     }
 
     // The bytes of a packet.
@@ -37,7 +35,7 @@ impl Member {
         ensures size { self.new.head.size ≡ self.old.head.size }
         ensures after { does hearing result (model_of self.new) ≡ m_hear self.old.head.size.heads (Some bytes.now) (model_of self.old) }
     {
-        self.head.hear_done(bytes)
+        self.head.hear(bytes)
     }
 
     // No packet came.
@@ -46,22 +44,6 @@ impl Member {
         ensures after { did hearing result (model_of self.new) ≡ m_hear self.old.head.size.heads None (model_of self.old) }
     {
         self.head.hear_nothing()
-    }
-
-    // Orders up to four pending messages, if this head holds the token.
-    pub fn turn(&mut self) -> Result<Done<Turned>, Refusal>
-        ensures size { self.new.head.size ≡ self.old.head.size }
-        ensures after { does turned result (model_of self.new) ≡ m_turn self.old.head.size.heads (model_of self.old) }
-    {
-        self.head.turn()
-    }
-
-    // One tick: idle until the wait is over.
-    pub fn tick(&mut self) -> Done<Ticked>
-        ensures size { self.new.head.size ≡ self.old.head.size }
-        ensures after { did ticked result (model_of self.new) ≡ m_tick self.old.head.size.heads (model_of self.old) }
-    {
-        self.head.tick()
     }
 
     // The next message of the common list.

@@ -9,18 +9,17 @@ use store::types::Slot;
 
 impl Head {
     // Lists the stamps below end that are not full, ascending, at the front of at least 96 places, and answers how many.
+    #[tactic(auto, unfolding(head::specs::Head::end))]
     pub fn missing(&self, list: &mut [u32]) -> Result<usize, Refusal>
         ensures answer { result ≡ missing_answer (model self.now) list.old }
         ensures after { list.new ≡ missing_list (model self.now) list.old }
     {
-        match self.queue.missing(list) {
-            Some(count) => Ok(count),
-            None => Err(Refusal::MemoryTooShort),
-        }
+        self.queue.missing(list).ok_or(Refusal::MemoryTooShort)
     }
 
     // How many other heads are known to have the data slot at a stamp. Of at least 96 scratch bytes, the one of each of the
     // queue's places becomes 1 plus the issuer where that place has the first ACK of a counted issuer, otherwise 0.
+    #[tactic(auto, unfolding(head::specs::Questions::ask_holders))]
     pub fn holders(&self, stamp: u32, scratch: &mut [u8]) -> Result<u8, Refusal>
         ensures answer { result ≡ holders_answer self.now.size.heads (model self.now) stamp scratch.old }
         ensures after { scratch.new ≡ holders_scratch self.now.size.heads (model self.now) stamp scratch.old }
@@ -29,12 +28,10 @@ impl Head {
             return Err(Refusal::MemoryTooShort);
         }
         let slot = self.queue.at(stamp as u64);
-        match slot {
-            Slot::Data { .. } => {
-                self.queue.mark_holders(self.size, self.me, stamp, scratch);
-                Ok(self.queue.holders(self.size, self.me, stamp))
-            }
-            _ => Err(Refusal::NoDataSlot),
-        }
+        let Slot::Data { .. } = slot else {
+            return Err(Refusal::NoDataSlot);
+        };
+        self.queue.mark_holders(self.in_ring(), stamp, scratch);
+        Ok(self.queue.holders(self.in_ring(), stamp))
     }
 }

@@ -2,21 +2,22 @@
 ghost use Rattle.std.specs.Prelude.{◌≡◌, ℕ, suc, ◌+◌, ◌-◌, ◌<◌, ◌≤◌};
 ghost use Rattle.head.specs.Submit.{submit as m_submit};
 ghost use Rattle.calls.specs.Model.{model};
-ghost use Rattle.calls.specs.Answers.{does, made_before, made_after, makes_before, submission};
+ghost use Rattle.calls.specs.Answers.{does, makes_before, submission};
 
-use crate::answers::{Done, Message, Submission, Submitted};
+use crate::answers::{Done, Submission};
 use crate::machine::Head;
 use frames::refusal::Refusal;
-use frames::types::{Body, Frame, Level, Name};
+use frames::types::{Body, Frame, Level, Message, Name};
 
 impl Head {
     // The new message. Before the upkeep.
+    #[tactic(auto, using(crate::proofs::Lows::low_is, crate::proofs::Lows::low_own, crate::proofs::Lows::near), unfolding(head::specs::Submit::submit, head::specs::Head::keep))]
     fn compose(&mut self, level: u8, bytes: &[u8]) -> Result<Message, Refusal>
         ensures size { self.new.size ≡ self.old.size }
         ensures after { makes_before self.old.size.heads result (model self.new) ≡ m_submit self.old.size.heads level bytes.now (model self.old) }
     {
         let level = Level::new(level, self.size)?;
-        let body = Body::new(bytes)?;
+        let body = Body::try_from(bytes)?;
         if self.made - self.inbox.low[self.me as usize] >= 4 {
             return Err(Refusal::TooManyUnordered);
         }
@@ -28,40 +29,22 @@ impl Head {
             number: self.made + 1,
             level,
         };
-        self.inbox.keep(name, body);
+        let message = Message { name, body };
+        self.inbox.keep(message);
         self.made += 1;
-        Ok(Message { name, body })
-    }
-
-    // Before the upkeep.
-    fn make(&mut self, level: u8, bytes: &[u8]) -> Result<Submitted, Refusal>
-        ensures size { self.new.size ≡ self.old.size }
-        ensures after { made_before self.old.size.heads result (model self.new) ≡ m_submit self.old.size.heads level bytes.now (model self.old) }
-    {
-        let Message { name, body } = self.compose(level, bytes)?;
-        Ok(Submitted::Made { name, body })
-    }
-
-    // A new message of this head.
-    pub fn submit(&mut self, level: u8, bytes: &[u8]) -> Result<Submitted, Refusal>
-        ensures size { self.new.size ≡ self.old.size }
-        ensures after { made_after result (model self.new) ≡ m_submit self.old.size.heads level bytes.now (model self.old) }
-    {
-        let answer = self.make(level, bytes)?;
-        self.settle();
-        Ok(answer)
+        Ok(message)
     }
 
     // A new message of this head, with its Data frame to put.
-    pub fn submit_done(&mut self, level: u8, bytes: &[u8]) -> Result<Done<Submission>, Refusal>
+    pub fn submit(&mut self, level: u8, bytes: &[u8]) -> Result<Done<Submission>, Refusal>
         ensures size { self.new.size ≡ self.old.size }
         ensures after { does submission result (model self.new) ≡ m_submit self.old.size.heads level bytes.now (model self.old) }
     {
-        let Message { name, body } = self.compose(level, bytes)?;
+        let message = self.compose(level, bytes)?;
         self.settle();
         let answer = Submission::Made {
-            number: name.number,
+            number: message.name.number,
         };
-        Ok(Done::new(answer, Some(Frame::Data { name, body })))
+        Ok(Done::new(answer, Some(Frame::Data(message))))
     }
 }

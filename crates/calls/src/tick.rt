@@ -8,61 +8,25 @@ ghost use Rattle.head.specs.Upkeep.{settled};
 ghost use Rattle.store.specs.Look.{put_of};
 ghost use Rattle.calls.specs.Answers.{did, ticked};
 ghost use Rattle.calls.specs.Model.{model};
-ghost use Rattle.calls.specs.Sendable.{Sendable};
+ghost use Rattle.calls.specs.Members.{model_of};
 
 use crate::answers::{Done, Ticked};
 use crate::machine::Head;
-use frames::types::{Frame, Names};
+use crate::member::Member;
+use frames::types::{Frame, Nack, Names};
 use store::look::{asked, wait};
-use store::types::Frames;
+use store::put::frames_there;
 
 impl Head {
     // The top ACK, if it is this head's own.
+    #[tactic(auto, unfolding(head::specs::Head::top))]
     fn own_top(&self) -> Option<Frame>
         ensures { put_of result ≡ own_again (model self.now) (top (model self.now)) }
     {
-        match self.queue.top() {
-            None => None,
-            Some(ack) => if ack.issuer == self.me {
-                Some(ack.frame())
-            } else {
-                None
-            },
-        }
-    }
-
-    // With no new ACK: the NACK, if one is wanted, and what is its own. Before the upkeep.
-    fn fire(&mut self, nack: Option<Frame>) -> Done<Ticked>
-        requires { Sendable (model self.old) }
-        ensures size { self.new.size ≡ self.old.size }
-        ensures after { did ticked result (settled self.old.size.heads (model self.new)) ≡ m_fire self.old.size.heads (model self.old) (put_of nack) }
-    {
-        let puts = Frames::of(nack, self.own_top(), self.lowest_own());
-        self.ticks = 0;
-        self.tries = if self.tries < 15 { self.tries + 1 } else { 15 };
-        Done {
-            answer: Ticked::Fired { count: puts.count },
-            puts,
-            issued: None,
-        }
-    }
-
-    // With a new ACK. Before the upkeep.
-    fn fire_ack(&mut self, names: Names) -> Done<Ticked>
-        requires room { room (model self.old) ≡ true }
-        requires stamps { stamps_left (model self.old) ≡ true }
-        requires sendable { Sendable (model self.old) }
-        requires chosen { names_of names ≡ to_order self.old.size.heads (model self.old) }
-        ensures size { self.new.size ≡ self.old.size }
-        ensures after { did ticked result (settled self.old.size.heads (model self.new)) ≡ m_fire_ack self.old.size.heads (model self.old) (names_of names) }
-    {
-        let ack = self.issue(names);
-        let puts = Frames::of(Some(ack.frame()), None, self.lowest_own());
-        Done {
-            answer: Ticked::Fired { count: puts.count },
-            puts,
-            issued: Some(ack),
-        }
+        self.queue
+            .top()
+            .filter(|ack| ack.issuer == self.me)
+            .map(Frame::Ack)
     }
 
     // This head may issue an ACK now.
@@ -71,53 +35,91 @@ impl Head {
     {
         self.holds_token() && self.has_room() && self.has_stamps()
     }
+}
+
+impl Member {
+    // With no new ACK: the NACK, if one is wanted, and what is its own. Before the upkeep.
+    fn fire(&mut self, nack: Option<Frame>) -> Done<Ticked>
+        ensures size { self.new.head.size ≡ self.old.head.size }
+        ensures after { did ticked result (settled self.old.head.size.heads (model_of self.new)) ≡ m_fire self.old.head.size.heads (model_of self.old) (put_of nack) }
+    {
+        let puts = frames_there(nack, self.head.own_top(), self.lowest_own());
+        self.head.ticks = 0;
+        self.head.tries = self.head.tries.saturating_add(1).min(15);
+        Done {
+            answer: Ticked::Fired {
+                count: puts.count as u8,
+            },
+            puts,
+            issued: None,
+        }
+    }
+
+    // With a new ACK. Before the upkeep.
+    #[tactic(auto, unfolding(head::specs::Head::top))]
+    fn fire_ack(&mut self, names: Names) -> Done<Ticked>
+        requires room { room (model_of self.old) ≡ true }
+        requires stamps { stamps_left (model_of self.old) ≡ true }
+        requires chosen { names_of names ≡ to_order self.old.head.size.heads (model_of self.old) }
+        ensures size { self.new.head.size ≡ self.old.head.size }
+        ensures after { did ticked result (settled self.old.head.size.heads (model_of self.new)) ≡ m_fire_ack self.old.head.size.heads (model_of self.old) (names_of names) }
+    {
+        let ack = self.issue(names);
+        let puts = frames_there(Some(Frame::Ack(ack)), None, self.lowest_own());
+        Done {
+            answer: Ticked::Fired {
+                count: puts.count as u8,
+            },
+            puts,
+            issued: Some(ack),
+        }
+    }
 
     // Nothing is missing: an ACK where one is due. Before the upkeep.
+    #[tactic(auto, using(crate::proofs::Turning::some_names))]
     fn pass_token(&mut self) -> Done<Ticked>
-        requires { Sendable (model self.old) }
-        ensures size { self.new.size ≡ self.old.size }
-        ensures after { did ticked result (settled self.old.size.heads (model self.new)) ≡ tick_token self.old.size.heads (model self.old) }
+        ensures size { self.new.head.size ≡ self.old.head.size }
+        ensures after { did ticked result (settled self.old.head.size.heads (model_of self.new)) ≡ tick_token self.old.head.size.heads (model_of self.old) }
     {
-        if !self.may_issue() {
+        if !self.head.may_issue() {
             return self.fire(None);
         }
         let names = self.gather();
-        if names.count == 0 && !self.queue.is_busy(self.size.heads) {
+        if names.count == 0 && !self.head.queue.is_busy(self.head.size.heads) {
             return self.fire(None);
         }
         self.fire_ack(names)
     }
 
     // Before the upkeep.
+    #[tactic(auto, unfolding(head::specs::Tick::tick, head::specs::Head::top))]
     fn count_tick(&mut self) -> Done<Ticked>
-        requires { Sendable (model self.old) }
-        ensures size { self.new.size ≡ self.old.size }
-        ensures after { did ticked result (settled self.old.size.heads (model self.new)) ≡ m_tick self.old.size.heads (model self.old) }
+        ensures size { self.new.head.size ≡ self.old.head.size }
+        ensures after { did ticked result (settled self.old.head.size.heads (model_of self.new)) ≡ m_tick self.old.head.size.heads (model_of self.old) }
     {
-        if self.ticks as u16 + 1 < wait(self.tries) as u16 {
-            self.ticks += 1;
+        if self.head.ticks as u16 + 1 < wait(self.head.tries) as u16 {
+            self.head.ticks += 1;
             return Done::new(Ticked::Idle, None);
         }
-        let stamp = self.mark();
-        if stamp < self.end() {
-            let to = asked(self.queue.top(), self.tries, self.me, self.size);
-            return self.fire(Some(Frame::Nack {
-                from: self.me,
+        let stamp = self.head.mark();
+        if stamp < self.head.end() {
+            let to = asked(self.head.queue.top(), self.head.tries, self.head.in_ring());
+            return self.fire(Some(Frame::Nack(Nack {
+                from: self.head.me,
                 to,
                 stamp,
-            }));
+            })));
         }
         self.pass_token()
     }
 
     // One tick: idle until the wait is over.
-    pub(crate) fn tick(&mut self) -> Done<Ticked>
-        requires { Sendable (model self.old) }
-        ensures size { self.new.size ≡ self.old.size }
-        ensures after { did ticked result (model self.new) ≡ m_tick self.old.size.heads (model self.old) }
+    pub fn tick(&mut self) -> Done<Ticked>
+        ensures size { self.new.head.size ≡ self.old.head.size }
+        ensures after { did ticked result (model_of self.new) ≡ m_tick self.old.head.size.heads (model_of self.old) }
     {
         let done = self.count_tick();
-        self.settle();
+        self.head.settle();
         done
     }
 }

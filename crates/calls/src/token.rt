@@ -1,28 +1,28 @@
 // The token: whether this head has it, and the ACK that it may then issue.
 ghost use Rattle.std.specs.Prelude.{◌≡◌, true};
-ghost use Rattle.frames.specs.Types.{names_of};
+ghost use Rattle.frames.specs.Types.{ack_meant, names_of};
 ghost use Rattle.head.specs.Head.{holds, next_of, place, room, stamps_left, top};
 ghost use Rattle.head.specs.Turn.{new_ack, to_order};
-ghost use Rattle.store.specs.Parts.{ack_of};
 ghost use Rattle.calls.specs.Model.{model};
-ghost use Rattle.calls.specs.Sendable.{Sendable};
+ghost use Rattle.calls.specs.Members.{model_of};
 
 use crate::machine::Head;
-use frames::types::Names;
-use store::look::Top;
+use crate::member::Member;
+use frames::types::{Ack, Names};
 
 impl Head {
     // The head that the top ACK names as next; head 0 while no ACK is known.
+    #[tactic(auto, unfolding(head::specs::Head::top))]
     fn next(&self) -> u8
         ensures { result ≡ next_of self.now.size.heads (top (model self.now)) }
     {
-        match self.queue.top() {
-            None => 0,
-            Some(ack) => ((ack.issuer as u16 + 1) % self.size.heads as u16) as u8,
-        }
+        self.queue.top().map_or(0, |ack| {
+            ((ack.issuer as u16 + 1) % self.size.heads as u16) as u8
+        })
     }
 
     // It is named as next, and has all that it knows of.
+    #[tactic(auto, unfolding(head::specs::Head::holds))]
     pub(crate) fn holds_token(&self) -> bool
         ensures { result ≡ holds self.now.size.heads (model self.now) }
     {
@@ -42,26 +42,25 @@ impl Head {
     {
         self.end() + 4 <= 1_000_000
     }
+}
 
+impl Member {
     // Issues the next ACK: it takes the stamp end, and is placed.
-    pub(crate) fn issue(&mut self, names: Names) -> Top
-        requires room { room (model self.old) ≡ true }
-        requires stamps { stamps_left (model self.old) ≡ true }
-        requires sendable { Sendable (model self.old) }
-        requires chosen { names_of names ≡ to_order self.old.size.heads (model self.old) }
-        ensures size { self.new.size ≡ self.old.size }
-        ensures sendable { Sendable (model self.new) }
-        ensures ack { ack_of result.stamp result.issuer result.names ≡ new_ack (model self.old) (names_of names) }
+    pub(crate) fn issue(&mut self, names: Names) -> Ack
+        requires room { room (model_of self.old) ≡ true }
+        requires stamps { stamps_left (model_of self.old) ≡ true }
+        requires chosen { names_of names ≡ to_order self.old.head.size.heads (model_of self.old) }
+        ensures size { self.new.head.size ≡ self.old.head.size }
+        ensures ack { ack_meant result ≡ new_ack (model_of self.old) (names_of names) }
         ensures names { result.names ≡ names }
-        ensures after { model self.new ≡ place (model self.old) (new_ack (model self.old) (names_of names)) }
+        ensures after { model_of self.new ≡ place (model_of self.old) (new_ack (model_of self.old) (names_of names)) }
     {
-        let stamp = self.end();
-        let issuer = self.me;
-        self.place(stamp, issuer, names);
-        Top {
-            stamp,
-            issuer,
+        let ack = Ack {
+            stamp: self.head.end(),
+            issuer: self.head.me,
             names,
-        }
+        };
+        self.head.place(ack);
+        ack
     }
 }

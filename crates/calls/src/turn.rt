@@ -1,54 +1,53 @@
-// The turn of the head that holds the token.
+// The turn of the member that holds the token.
 ghost use Rattle.std.specs.Prelude.{◌≡◌};
 ghost use Rattle.head.specs.Turn.{turn as m_turn};
 ghost use Rattle.calls.specs.Answers.{does, does_before, turned};
-ghost use Rattle.calls.specs.Model.{model};
-ghost use Rattle.calls.specs.Sendable.{Sendable};
+ghost use Rattle.calls.specs.Members.{model_of};
 
 use crate::answers::{Done, Turned};
-use crate::machine::Head;
+use crate::member::Member;
 use frames::refusal::Refusal;
-use store::types::Frames;
+use frames::types::Frame;
+use store::put::frames_there;
 
-impl Head {
+impl Member {
     // Before the upkeep.
+    #[tactic(auto, using(crate::proofs::Turning::some_names), unfolding(head::specs::Turn::turn))]
     fn order(&mut self) -> Result<Done<Turned>, Refusal>
-        requires { Sendable (model self.old) }
-        ensures size { self.new.size ≡ self.old.size }
-        ensures after { does_before self.old.size.heads turned result (model self.new) ≡ m_turn self.old.size.heads (model self.old) }
+        ensures size { self.new.head.size ≡ self.old.head.size }
+        ensures after { does_before self.old.head.size.heads turned result (model_of self.new) ≡ m_turn self.old.head.size.heads (model_of self.old) }
     {
-        if !self.holds_token() {
+        if !self.head.holds_token() {
             return Ok(Done::new(Turned::NotYours, None));
         }
         let names = self.gather();
         if names.count == 0 {
             return Ok(Done::new(Turned::Nothing, None));
         }
-        if !self.has_room() {
+        if !self.head.has_room() {
             return Ok(Done::new(Turned::Crowded, None));
         }
-        if !self.has_stamps() {
+        if !self.head.has_stamps() {
             return Err(Refusal::StampsUsedUp);
         }
         let ack = self.issue(names);
         Ok(Done {
             answer: Turned::Ordered {
                 stamp: ack.stamp,
-                count: names.count,
+                count: names.count as u8,
             },
-            puts: Frames::of(Some(ack.frame()), None, None),
+            puts: frames_there(Some(Frame::Ack(ack)), None, None),
             issued: Some(ack),
         })
     }
 
     // Orders up to four pending messages, if this head holds the token.
-    pub(crate) fn turn(&mut self) -> Result<Done<Turned>, Refusal>
-        requires { Sendable (model self.old) }
-        ensures size { self.new.size ≡ self.old.size }
-        ensures after { does turned result (model self.new) ≡ m_turn self.old.size.heads (model self.old) }
+    pub fn turn(&mut self) -> Result<Done<Turned>, Refusal>
+        ensures size { self.new.head.size ≡ self.old.head.size }
+        ensures after { does turned result (model_of self.new) ≡ m_turn self.old.head.size.heads (model_of self.old) }
     {
         let done = self.order()?;
-        self.settle();
+        self.head.settle();
         Ok(done)
     }
 }

@@ -1,7 +1,9 @@
 -- How the parts that are read make a frame, or none.
-use Rattle.std.proofs.Common.{◌≡◌, ℕ, ◌<◌, ◌≤◌, Bool, true, false, cond, ◌&&◌, eqb, ◌≢◌, List, length, get_or, drop, IfOk, Ok, Err, Result, sym, refl, ap, ◌∙◌, subst, arith, w8, Fits}
+use Rattle.std.proofs.Common.{◌≡◌, ℕ, ◌+◌, ◌*◌, [], ◌∷◌, take, map, ◌/◌, ◌<◌, ◌≤◌, Bool, true, false, cond, ◌&&◌, eqb, ◌≢◌, List, length, get_or, drop, IfOk, Ok, Err, Result, sym, refl, ap, ◌∙◌, subst, arith, w8, Fits}
+use Rattle.std.specs.Simd.{first_chunks}
+use Rattle.std.proofs.lemmas.List.{get_or-take}
 use Rattle.std.proofs.lemmas.List.Elements.{All-from_get_or}
-use Rattle.std.proofs.lemmas.Bool.{and_left, and_right, cond-true, cond-false, ne_eqb, eq-eqb}
+use Rattle.std.proofs.lemmas.Bool.{and_left, and_right, cond-true, cond-false, ne_eqb, eq-eqb, le-leb}
 use Rattle.std.proofs.lemmas.Bool.Decides.{nat_tests}
 use Rattle.frames.specs.declared.refusal.Refusal.{Refusal}
 use Rattle.frames.specs.declared.refusal.Refusal.TheVariants.{NotAFrame, FieldOutOfRange, BadBodyLength}
@@ -14,7 +16,7 @@ use Rattle.frames.specs.Written.{written}
 use Rattle.frames.specs.Reading.{word_at, name_in, names_in, data_in, ack_in, ranged, counted, read_data, read_ack, read}
 use Rattle.frames.specs.Laws.{Byte}
 use Rattle.frames.proofs.Laws.{writes_back}
-use Rattle.frames.proofs.Steps.{passed, failed, length-names_in}
+use Rattle.frames.proofs.Steps.{passed, failed, length-names_in, map_names-chunks}
 
 -- a frame that is accepted is the one that writing it gives
 pub forth : (n : ℕ) (bs : List ℕ) (r : Result CFrame Refusal) → ((i : ℕ) → Fits w8 (get_or bs i 0)) → meant frame_of r ≡ read n bs → IfOk r (λ f. written n (frame_of f) ≡ bs)
@@ -27,6 +29,55 @@ ranged_fails n sized ok f c h = sym (cond-true sized (ranged n ok f) (Err NotAFr
 
 pub ranged_goes : (n : ℕ) (sized ok : Bool) (f : Frame) → sized ≡ true → (ok && frame_ok n f) ≡ true → Ok f ≡ cond sized (ranged n ok f) (Err NotAFrame)
 ranged_goes n sized ok f c h = sym (cond-true sized (ranged n ok f) (Err NotAFrame) c ∙ cond-true (ok && frame_ok n f) (Ok f) (Err FieldOutOfRange) h)
+
+-- the first eight bytes, taken apart
+word_at-take : (bs : List ℕ) → word_at (take 8 bs) 1 ≡ word_at bs 1
+word_at-take [] = refl
+word_at-take (a ∷ []) = refl
+word_at-take (a ∷ b ∷ []) = refl
+word_at-take (a ∷ b ∷ c ∷ []) = refl
+word_at-take (a ∷ b ∷ c ∷ d ∷ []) = refl
+word_at-take (a ∷ b ∷ c ∷ d ∷ e ∷ []) = refl
+word_at-take (a ∷ b ∷ c ∷ d ∷ e ∷ f ∷ []) = refl
+word_at-take (a ∷ b ∷ c ∷ d ∷ e ∷ f ∷ g ∷ []) = refl
+word_at-take (a ∷ b ∷ c ∷ d ∷ e ∷ f ∷ g ∷ h ∷ bs) = refl
+
+name_in-front : (bs : List ℕ) → name_in (get_or (take 8 bs) 1 0 ∷ get_or (take 8 bs) 2 0 ∷ get_or (take 8 bs) 3 0 ∷ get_or (take 8 bs) 4 0 ∷ get_or (take 8 bs) 5 0 ∷ get_or (take 8 bs) 6 0 ∷ []) ≡ name_in (drop 1 bs)
+name_in-front [] = refl
+name_in-front (a ∷ []) = refl
+name_in-front (a ∷ b ∷ []) = refl
+name_in-front (a ∷ b ∷ c ∷ []) = refl
+name_in-front (a ∷ b ∷ c ∷ d ∷ []) = refl
+name_in-front (a ∷ b ∷ c ∷ d ∷ e ∷ []) = refl
+name_in-front (a ∷ b ∷ c ∷ d ∷ e ∷ f ∷ []) = refl
+name_in-front (a ∷ b ∷ c ∷ d ∷ e ∷ f ∷ g ∷ []) = refl
+name_in-front (a ∷ b ∷ c ∷ d ∷ e ∷ f ∷ g ∷ h ∷ bs) = refl
+
+plus_eight : (a b y : ℕ) → a ≡ y → a + 8 ≡ b → b ≡ 8 + y
+plus_eight a b y e f = omega arith
+
+module _ (bs front rest : List ℕ) (p : (front ≡ take 8 bs) × (rest ≡ drop 8 bs) × (length rest + 8 ≡ length bs)) where
+  pub front_at : (i : ℕ) → i < 8 → get_or front i 0 ≡ get_or bs i 0
+  front_at i h = ap (λ xs. get_or xs i 0) p.0 ∙ get_or-take 8 bs i 0 h
+
+  pub front_name : name_in (get_or front 1 0 ∷ get_or front 2 0 ∷ get_or front 3 0 ∷ get_or front 4 0 ∷ get_or front 5 0 ∷ get_or front 6 0 ∷ []) ≡ name_in (drop 1 bs)
+  front_name = rw p.0 (name_in-front bs)
+
+  pub front_word : word_at front 1 ≡ word_at bs 1
+  front_word = rw p.0 (word_at-take bs)
+
+  pub front_counted : (k : ℕ) → length rest ≡ k * get_or front 7 0 → counted k bs ≡ true
+  front_counted k h =
+      let e : length rest ≡ k * get_or bs 7 0 = rw (front_at 7 (omega arith)) at h in
+      let l : length bs ≡ 8 + k * get_or bs 7 0 = plus_eight _ _ _ e p.2 in
+      let m : 8 ≤ length bs = omega (arith, p.2) in
+      simp (le-leb 8 (length bs) m, eq-eqb (length bs) (8 + k * get_or bs 7 0) l)
+
+  pub front_names : (ps : List (List ℕ)) → length rest ≡ 6 * get_or front 7 0 → ps ≡ first_chunks 6 (length rest / 6) rest → map name_in ps ≡ names_in (get_or bs 7 0) (drop 8 bs)
+  front_names ps h e =
+      let g = front_at 7 (omega arith) in
+      let d : length rest / 6 ≡ get_or bs 7 0 = omega arith in
+      ap (map name_in) e ∙ (map_names-chunks (length rest / 6) rest ∙ (ap (λ k. names_in k rest) d ∙ ap (names_in (get_or bs 7 0)) p.1))
 
 -- an answer that is the frame itself, or a refusal: what it means, and its unused places
 pub ranged_means : (n : ℕ) (f : CFrame) (r : Result CFrame Refusal) → r ≡ cond (frame_ok n (frame_of f)) (Ok f) (Err FieldOutOfRange) → meant frame_of r ≡ ranged n true (frame_of f)

@@ -1,7 +1,7 @@
 -- Writing one part after another at the front of a slice.
-use Rattle.std.proofs.Common.{◌≡◌, ℕ, ◌+◌, ◌-◌, ◌*◌, ◌<◌, ◌≤◌, true, leb, List, [], ◌∷◌, ◌++◌, length, get_or, take, drop, replicate, Ok, Err, sym, refl, ap, ◌∙◌, mul-add, arith, length-append}
+use Rattle.std.proofs.Common.{◌≡◌, ℕ, ◌+◌, ◌*◌, ◌<◌, ◌≤◌, true, leb, List, [], ◌∷◌, ◌++◌, length, get_or, take, drop, Ok, Err, sym, refl, ap, ◌∙◌, mul-add, arith, length-append}
 use lib.Seq.{paste}
-use Rattle.std.proofs.lemmas.List.{take_at, take_all, drop_at, drop-drop, drop-replicate, take_more, flat_map_more, length-take-le}
+use Rattle.std.proofs.lemmas.List.{take_at, take_all, drop_at, drop-drop, take_more, flat_map_more, length-take-le}
 use Rattle.std.proofs.lemmas.List.Edits.{paste-paste}
 use Rattle.std.specs.List.{flat_map}
 use Rattle.std.proofs.lemmas.Bool.{cond-true, le-leb}
@@ -47,16 +47,6 @@ pub front_again : (a o bs : List ℕ) → o ≡ paste a 0 bs (length bs) → tak
 front_again a o bs w =
     let p = paste_first a bs (length bs) refl in
     rw (w, p) (take_at bs (drop (0 + length bs) a) (length bs) refl)
-
--- past a front that was written into a blank, it is blank
-pub blank_past : (m k : ℕ) (ws : List ℕ) → length ws ≡ k → drop k (ws ++ drop k (replicate m 0)) ≡ replicate (m - k) 0
-blank_past m k ws l = drop_at ws (drop k (replicate m 0)) k l ∙ drop-replicate k m 0
-
-pub front_rest : (m : ℕ) (o bs : List ℕ) → o ≡ paste (replicate m 0) 0 bs (length bs) → drop (length bs) o ≡ replicate (m - length bs) 0
-front_rest m o bs w =
-    let p = paste_first (replicate m 0) bs (length bs) refl in
-    let z : 0 + length bs ≡ length bs = omega arith in
-    rw (w, p, z) (blank_past m (length bs) bs refl)
 
 -- there is room, and the fields are in range
 pub write_goes : (n : ℕ) (f : Frame) (len room : ℕ) → len ≡ length (written n f) → len ≤ room → frame_ok n f ≡ true → Ok len ≡ write_answer n f room

@@ -1,4 +1,6 @@
+pub mod Tables
 pub mod Fronts
+pub mod Levels
 pub mod Naming
 pub mod Steps
 pub mod Laws

@@ -1,8 +1,9 @@
 pub mod Bounds
 pub mod Refusals
 pub mod Values
+pub mod Tables
 pub mod Types
-pub mod Made
 pub mod Written
 pub mod Reading
+pub mod Made
 pub mod Laws

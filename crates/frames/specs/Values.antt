@@ -1,5 +1,6 @@
 -- What is meant by a name, a message, an ACK and a frame, apart from how they are stored or sent.
-use Rattle.std.specs.Prelude.{ℕ, ◌+◌, Bool, true, ◌&&◌, List, [], ◌∷◌, length, nat_le, nat_lt}
+use Rattle.std.specs.Prelude.{ℕ, ◌+◌, Bool, true, ◌&&◌, List, length, nat_le, nat_lt}
+use Rattle.std.specs.List.{list_all}
 use Rattle.frames.specs.Bounds.{level_ok, number_ok, stamp_ok, body_length_ok, count_ok}
 
 -- a message by its source, its number there and its level
@@ -33,8 +34,7 @@ abbrev pub name_ok : ℕ → Name → Bool
 name_ok n x = nat_lt x.source n && (number_ok x.number && level_ok n x.level)
 
 abbrev pub names_ok : ℕ → List Name → Bool
-names_ok n [] = true
-names_ok n (x ∷ xs) = name_ok n x && names_ok n xs
+names_ok n xs = list_all (name_ok n) xs
 
 abbrev pub asked_ok : ℕ → Asked → Bool
 asked_ok n (one h) = nat_lt h n

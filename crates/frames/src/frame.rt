@@ -1,15 +1,21 @@
 // The length of a frame, and whether a ring can have it.
-ghost use Rattle.std.specs.Prelude.{◌≡◌, ℕ, ◌+◌, ◌≤◌, ◌&&◌, length, nat_le, nat_lt};
-ghost use Rattle.frames.specs.Values.{names_ok, frame_ok};
-ghost use Rattle.frames.specs.Types.{names_of, frame_of};
+ghost use Rattle.std.specs.Prelude.{◌≡◌, ℕ, ◌+◌, ◌≤◌, length};
+ghost use Rattle.frames.specs.Values.{ack_frame, frame_ok};
+ghost use Rattle.frames.specs.Types.{ack_meant, frame_of};
 ghost use Rattle.frames.specs.Written.{written};
 
-use crate::types::{Frame, Names, RingSize};
+use crate::types::{Ack, Frame, RingSize};
 
-fn ack_suits(size: RingSize, stamp: u32, issuer: u8, names: Names) -> bool
-    ensures { result ≡ (nat_le 1 stamp && (nat_le (stamp + names.count) 1000000 && (nat_lt issuer size.heads && names_ok size.heads (names_of names)))) }
-{
-    1 <= stamp && stamp <= 1_000_000 - names.count as u32 && issuer < size.heads && names.suit(size)
+impl Ack {
+    // Whether its fields are in range for a ring of this size.
+    pub fn suits(&self, size: RingSize) -> bool
+        ensures { result ≡ frame_ok size.heads (ack_frame (ack_meant self.now)) }
+    {
+        1 <= self.stamp
+            && self.stamp <= 1_000_000 - self.names.count as u32
+            && self.issuer < size.heads
+            && self.names.suit(size)
+    }
 }
 
 impl Frame {
@@ -19,9 +25,9 @@ impl Frame {
         ensures bound { result ≤ 32 }
     {
         match self {
-            Frame::Data { body, .. } => 8 + body.len as usize,
-            Frame::Ack { names, .. } => 8 + 6 * names.count as usize,
-            Frame::Nack { .. } => 7,
+            Frame::Data(message) => 8 + message.body.bytes.count,
+            Frame::Ack(ack) => 8 + 6 * ack.names.count,
+            Frame::Nack(_) => 7,
         }
     }
 
@@ -29,17 +35,13 @@ impl Frame {
     pub fn suits(&self, size: RingSize) -> bool
         ensures { result ≡ frame_ok size.heads (frame_of self.now) }
     {
-        match *self {
-            Frame::Data { name, .. } => name.suits(size),
-            Frame::Ack {
-                stamp,
-                issuer,
-                names,
-            } => ack_suits(size, stamp, issuer, names),
-            Frame::Nack { from, to, stamp } => from < size.heads
-                && to.suits(size)
-                && 1 <= stamp
-                && stamp <= 1_000_000,
+        match self {
+            Frame::Data(message) => message.name.suits(size),
+            Frame::Ack(ack) => ack.suits(size),
+            Frame::Nack(nack) => nack.from < size.heads
+                && nack.to.suits(size)
+                && 1 <= nack.stamp
+                && nack.stamp <= 1_000_000,
         }
     }
 }

@@ -1,21 +1,63 @@
 // Sizes of rings, and levels of messages.
 ghost use Rattle.std.specs.Prelude.{◌≡◌};
 ghost use Rattle.frames.specs.Bounds.{level_ok, needs as other_heads};
-ghost use Rattle.frames.specs.Types.{meant};
-ghost use Rattle.frames.specs.Made.{level_number, heads_of, size_for, level_for, LevelByText};
+ghost use Rattle.frames.specs.Types.{meant, level_number};
+ghost use Rattle.frames.specs.Made.{SizeFrom, LevelFrom, LevelNamed, level_for};
 
 use crate::refusal::Refusal;
 use crate::types::{Level, RingSize};
+use std::str::FromStr;
 
-impl RingSize {
-    // Two to eight heads.
-    pub fn new(heads: u8) -> Result<RingSize, Refusal>
-        ensures { meant heads_of result ≡ size_for heads }
-    {
+// Two to eight heads.
+impl TryFrom<u8> for RingSize {
+    type Error = Refusal;
+
+    ghost try_from_gives = { SizeFrom };
+
+    fn try_from(heads: u8) -> Result<RingSize, Refusal> {
         match heads {
             0..=1 => Err(Refusal::TooFewHeads),
             2..=8 => Ok(RingSize { heads }),
             _ => Err(Refusal::TooManyHeads),
+        }
+    }
+}
+
+// The level of this number, which some ring can meet.
+impl TryFrom<u8> for Level {
+    type Error = Refusal;
+
+    ghost try_from_gives = { LevelFrom };
+
+    fn try_from(number: u8) -> Result<Level, Refusal> {
+        match number {
+            0 => Ok(Level::Total),
+            1 => Ok(Level::One),
+            2 => Ok(Level::Two),
+            3 => Ok(Level::Three),
+            4 => Ok(Level::Four),
+            5 => Ok(Level::Five),
+            6 => Ok(Level::Six),
+            7 => Ok(Level::Seven),
+            8 => Ok(Level::Majority),
+            9 => Ok(Level::Safe),
+            _ => Err(Refusal::BadLevel),
+        }
+    }
+}
+
+// The level of this name. It suits a ring of any size.
+impl FromStr for Level {
+    type Err = Refusal;
+
+    ghost from_str_gives = { LevelNamed };
+
+    fn from_str(text: &str) -> Result<Level, Refusal> {
+        match text {
+            "total" => Ok(Level::Total),
+            "majority" => Ok(Level::Majority),
+            "safe" => Ok(Level::Safe),
+            _ => Err(Refusal::BadLevel),
         }
     }
 }
@@ -25,40 +67,36 @@ impl Level {
     pub fn new(number: u8, size: RingSize) -> Result<Level, Refusal>
         ensures { meant level_number result ≡ level_for size.heads number }
     {
-        match number {
-            8..=9 => Ok(Level { number }),
-            others if others < size.heads => Ok(Level { number }),
-            _ => Err(Refusal::BadLevel),
+        let level = Level::try_from(number)?;
+        if level.suits(size) {
+            Ok(level)
+        } else {
+            Err(Refusal::BadLevel)
         }
     }
 
-    // The level of this name. It suits a ring of any size.
-    pub fn named(text: &str) -> Result<Level, Refusal>
-        ensures { LevelByText text.now (meant level_number result) }
+    // Its number, as it is sent.
+    pub fn number(self) -> u8
+        ensures { result ≡ level_number self }
     {
-        match text {
-            "total" => Ok(Level { number: 0 }),
-            "majority" => Ok(Level { number: 8 }),
-            "safe" => Ok(Level { number: 9 }),
-            _ => Err(Refusal::BadLevel),
-        }
+        self as u8
     }
 
     // Whether a ring of this size can meet it.
     pub fn suits(self, size: RingSize) -> bool
-        ensures { result ≡ level_ok size.heads self.number }
+        ensures { result ≡ level_ok size.heads (level_number self) }
     {
-        self.number < size.heads || self.number == 8 || self.number == 9
+        self.number() < size.heads || self == Level::Majority || self == Level::Safe
     }
 
     // How many other heads must have a message of this level before it is delivered.
     pub fn needs(self, size: RingSize) -> u8
-        ensures { result ≡ other_heads size.heads self.number }
+        ensures { result ≡ other_heads size.heads (level_number self) }
     {
-        match self.number {
-            9 => size.heads - 1,
-            8 => size.heads / 2,
-            others => others,
+        match self {
+            Level::Safe => size.heads - 1,
+            Level::Majority => size.heads / 2,
+            others => others.number(),
         }
     }
 }

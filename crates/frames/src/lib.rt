@@ -1,12 +1,14 @@
 // Levels, names, frames and their bytes, and the refusals of the whole repository.
 #![tactic(auto)]
 
+pub mod body;
 pub mod frame;
 pub mod level;
 pub mod names;
 pub mod read;
 pub mod refusal;
 pub mod show;
+pub mod table;
 pub mod types;
 pub mod write;
 
@@ -15,7 +17,7 @@ pub mod write;
 mod tests {
     use crate::read::read;
     use crate::refusal::Refusal;
-    use crate::types::{Body, Frame, Level, Name, Names, RingSize, To};
+    use crate::types::{Ack, Body, Frame, Level, Message, Nack, Name, Names, RingSize, To};
     use crate::write::pack;
     use std::process::Abort;
     use std::test::Fail;
@@ -35,11 +37,11 @@ mod tests {
 
     #[test]
     fn a_message_is_sent(rt: HostRuntime) -> Result<(), Fail> {
-        let size = RingSize::new(3)?;
-        let frame = Frame::Data {
+        let size = RingSize::try_from(3)?;
+        let frame = Frame::Data(Message {
             name: first_name(size)?,
-            body: Body::new(&[1])?,
-        };
+            body: Body::try_from([1].as_slice())?,
+        });
         writes(
             &rt,
             size,
@@ -50,7 +52,7 @@ mod tests {
 
     #[test]
     fn a_message_is_ordered(rt: HostRuntime) -> Result<(), Fail> {
-        let size = RingSize::new(3)?;
+        let size = RingSize::try_from(3)?;
         let mut names = Names::none();
         assert!(rt; names.push(first_name(size)?));
         let bytes = [
@@ -59,26 +61,26 @@ mod tests {
         writes(
             &rt,
             size,
-            Frame::Ack {
+            Frame::Ack(Ack {
                 stamp: 1,
                 issuer: 0,
                 names,
-            },
+            }),
             &bytes,
         )
     }
 
     #[test]
     fn a_slot_is_asked_for(rt: HostRuntime) -> Result<(), Fail> {
-        let size = RingSize::new(3)?;
+        let size = RingSize::try_from(3)?;
         writes(
             &rt,
             size,
-            Frame::Nack {
+            Frame::Nack(Nack {
                 from: 2,
                 to: To::Head(0),
                 stamp: 2,
-            },
+            }),
             &[0x03, 0x02, 0x00, 0x00, 0x00, 0x00, 0x02],
         )
     }
@@ -87,7 +89,7 @@ mod tests {
     fn next_follows_the_issuer(rt: HostRuntime) -> Result<(), Fail> {
         let bytes = [0x02, 0x00, 0x00, 0x00, 0x01, 0x00, 0x02, 0x00];
         assert_eq!(rt;
-            read(RingSize::new(3)?, &bytes).err(),
+            read(RingSize::try_from(3)?, &bytes).err(),
             Some(Refusal::FieldOutOfRange)
         );
         Ok(())
@@ -95,13 +97,15 @@ mod tests {
 
     #[test]
     fn levels_suit_the_ring(rt: HostRuntime) -> Result<(), Fail> {
-        let size = RingSize::new(3)?;
+        let size = RingSize::try_from(3)?;
         assert_eq!(rt; Level::new(2, size)?.needs(size), 2);
         assert_eq!(rt; Level::new(3, size).err(), Some(Refusal::BadLevel));
-        assert_eq!(rt; Level::named("Safe").err(), Some(Refusal::BadLevel));
+        assert_eq!(rt; "Safe".parse::<Level>().err(), Some(Refusal::BadLevel));
         for (heads, others) in [(2, 1), (3, 1), (4, 2), (8, 4)] {
             assert_eq!(rt;
-                Level::named("majority")?.needs(RingSize::new(heads)?),
+                "majority"
+                    .parse::<Level>()?
+                    .needs(RingSize::try_from(heads)?),
                 others
             );
         }

@@ -1,11 +1,12 @@
 // Names, lists of names, and whom a NACK asks.
-ghost use Rattle.std.specs.Prelude.{◌≡◌, ◌+◌, ◌<◌, [], ◌∷◌, ◌++◌, if◌then◌else◌, nat_lt, slice_set};
+ghost use Rattle.std.specs.Prelude.{◌≡◌, []};
 ghost use Rattle.frames.specs.Values.{name_ok, names_ok, asked_ok};
 ghost use Rattle.frames.specs.Types.{meant, name_of, names_of, asked_of, NamesRest};
-ghost use Rattle.frames.specs.Written.{asked_byte};
-ghost use Rattle.frames.specs.Made.{name_for};
+ghost use Rattle.frames.specs.Written.{name_bytes};
+ghost use Rattle.frames.specs.Made.{AskedFrom, AskedAs, name_for};
 
 use crate::refusal::Refusal;
+use crate::table::Table;
 use crate::types::{Level, Name, Names, RingSize, To};
 
 impl Name {
@@ -29,13 +30,21 @@ impl Name {
     {
         self.source < size.heads && self.level.suits(size)
     }
+
+    // Source (1), number (4), level (1).
+    pub(crate) fn to_bytes(self) -> [u8; 6]
+        ensures { result ≡ name_bytes (name_of self) }
+    {
+        let [a, b, c, d] = self.number.to_be_bytes();
+        [self.source, a, b, c, d, self.level.number()]
+    }
 }
 
 // Fills a place of Names that is not used.
 const UNUSED: Name = Name {
     source: 0,
     number: 1,
-    level: Level { number: 0 },
+    level: Level::Total,
 };
 
 impl Names {
@@ -43,60 +52,41 @@ impl Names {
         ensures answer { names_of result ≡ [] }
         ensures rest { NamesRest result }
     {
-        Names {
-            all: [UNUSED; 4],
-            count: 0,
-        }
+        Table::empty(UNUSED)
     }
 
-    // One name more; false, and nothing changes, where there are four.
-    pub fn push(&mut self, name: Name) -> bool
-        ensures answer { result ≡ nat_lt self.old.count 4 }
-        ensures after { names_of self.new ≡ (if result then names_of self.old ++ name_of name ∷ [] else names_of self.old) }
-        ensures places { self.new.all ≡ (if result then slice_set self.old.all self.old.count name else self.old.all) }
-        ensures count { self.new.count ≡ (if result then self.old.count + 1 else self.old.count) }
-    {
-        let room = self.count < 4;
-        if room {
-            self.append(name);
-        }
-        room
-    }
-
-    fn append(&mut self, name: Name)
-        requires { self.old.count < 4 }
-        ensures after { names_of self.new ≡ names_of self.old ++ name_of name ∷ [] }
-        ensures places { self.new.all ≡ slice_set self.old.all self.old.count name }
-        ensures count { self.new.count ≡ self.old.count + 1 }
-    {
-        self.all[self.count as usize] = name;
-        self.count += 1;
-    }
-
+    // Whether each is in range for a ring of this size.
     pub fn suit(&self, size: RingSize) -> bool
         ensures { result ≡ names_ok size.heads (names_of self.now) }
     {
-        for i in 0..self.count as usize {
-            let name = self.all[i];
-            if !name.suits(size) {
-                return false;
-            }
-        }
-        true
+        self.as_slice().iter().all(|name| name.suits(size))
     }
 }
 
-impl To {
-    // The byte that it is written as.
-    pub(crate) fn byte(self) -> u8
-        ensures { result ≡ asked_byte (asked_of self) }
-    {
-        match self {
+// The byte 255 asks everyone, and any other that head.
+impl From<u8> for To {
+    ghost from_gives = { AskedFrom };
+
+    fn from(byte: u8) -> To {
+        match byte {
+            255 => To::Everyone,
+            head => To::Head(head),
+        }
+    }
+}
+
+impl From<To> for u8 {
+    ghost from_gives = { AskedAs };
+
+    fn from(to: To) -> u8 {
+        match to {
             To::Head(head) => head,
             To::Everyone => 255,
         }
     }
+}
 
+impl To {
     // Whether a ring of this size has whom it asks.
     pub fn suits(self, size: RingSize) -> bool
         ensures { result ≡ asked_ok size.heads (asked_of self) }

@@ -1,46 +1,40 @@
 // Reading a frame.
-ghost use Rattle.std.specs.Prelude.{◌≡◌, ◌+◌, ◌*◌, ◌<◌, ◌≤◌, true, length, drop, IfOk, if◌then◌else◌, Ok, Err};
+ghost use Rattle.std.specs.Prelude.{◌≡◌, ◌≤◌, true, length, map, IfOk, if◌then◌else◌, Ok, Err};
 ghost use Rattle.frames.specs.declared.refusal.Refusal.TheVariants.{FieldOutOfRange};
 ghost use Rattle.frames.specs.Values.{frame_ok};
-ghost use Rattle.frames.specs.Types.{meant, name_of, names_of, asked_of, frame_of, NamesRest, FrameRest};
+ghost use Rattle.frames.specs.Types.{meant, name_of, names_of, frame_of, NamesRest, FrameRest};
 ghost use Rattle.frames.specs.Made.{name_for, names_for};
 ghost use Rattle.frames.specs.Written.{written};
-ghost use Rattle.frames.specs.Reading.{name_in, names_in, asked_in, counted, ranged as ranged_by_rule, read as read_by_rule, read_data as data_by_rule, read_ack as ack_by_rule, read_nack as nack_by_rule};
+ghost use Rattle.frames.specs.Reading.{name_in, ranged as ranged_by_rule, read as read_by_rule, read_data as data_by_rule, read_ack as ack_by_rule, read_nack as nack_by_rule};
 ghost use Rattle.frames.specs.Laws.{ReadsBack, WritesBack};
 
 use crate::refusal::Refusal;
-use crate::types::{Body, Frame, Name, Names, RingSize, To};
+use crate::types::{Ack, Body, Frame, Message, Nack, Name, Names, RingSize, To};
 
-fn read_name(size: RingSize, bytes: &[u8], at: usize) -> Result<Name, Refusal>
-    requires { at + 6 ≤ length bytes.now }
-    ensures { meant name_of result ≡ name_for size.heads (name_in (drop at bytes.now)) }
+// The kinds of frames: the first byte of each.
+pub(crate) const DATA: u8 = 1;
+
+pub(crate) const ACK: u8 = 2;
+
+pub(crate) const NACK: u8 = 3;
+
+fn read_name(size: RingSize, bytes: [u8; 6]) -> Result<Name, Refusal>
+    ensures { meant name_of result ≡ name_for size.heads (name_in bytes) }
 {
-    let number = u32::from_be_bytes([bytes[at + 1], bytes[at + 2], bytes[at + 3], bytes[at + 4]]);
-    Name::new(size, bytes[at], number, bytes[at + 5])
+    let [source, a, b, c, d, level] = bytes;
+    Name::new(size, source, u32::from_be_bytes([a, b, c, d]), level)
 }
 
-fn read_names(size: RingSize, bytes: &[u8], count: usize) -> Result<Names, Refusal>
-    requires room { 8 + 6 * count ≤ length bytes.now }
-    requires few { count ≤ 4 }
-    ensures answer { meant names_of result ≡ names_for size.heads (names_in count (drop 8 bytes.now)) }
+fn read_names(size: RingSize, places: &[[u8; 6]]) -> Result<Names, Refusal>
+    requires { length places.now ≤ 4 }
+    ensures answer { meant names_of result ≡ names_for size.heads (map name_in places.now) }
     ensures rest { IfOk result NamesRest }
 {
     let mut names = Names::none();
-    for i in 0..count {
-        let name = read_name(size, bytes, 8 + 6 * i)?;
-        names.push(name);
+    for place in places {
+        names.push(read_name(size, *place)?);
     }
     Ok(names)
-}
-
-fn read_to(byte: u8) -> To
-    ensures { asked_of result ≡ asked_in byte }
-{
-    if byte == 255 {
-        To::Everyone
-    } else {
-        To::Head(byte)
-    }
 }
 
 fn ranged(size: RingSize, frame: Frame) -> Result<Frame, Refusal>
@@ -58,38 +52,33 @@ fn read_nack(size: RingSize, bytes: &[u8]) -> Result<Frame, Refusal>
     ensures answer { meant frame_of result ≡ nack_by_rule size.heads bytes.now }
     ensures rest { IfOk result FrameRest }
 {
-    if bytes.len() != 7 {
+    let &[_, from, to, a, b, c, d] = bytes else {
         return Err(Refusal::NotAFrame);
-    }
-    let stamp = u32::from_be_bytes([bytes[3], bytes[4], bytes[5], bytes[6]]);
+    };
     ranged(
         size,
-        Frame::Nack {
-            from: bytes[1],
-            to: read_to(bytes[2]),
-            stamp,
-        },
+        Frame::Nack(Nack {
+            from,
+            to: To::from(to),
+            stamp: u32::from_be_bytes([a, b, c, d]),
+        }),
     )
-}
-
-// Whether the bytes are eight and then as many items of this size as the eighth says.
-fn is_counted(bytes: &[u8], item: usize) -> bool
-    requires { item ≤ 6 }
-    ensures { result ≡ counted item bytes.now }
-{
-    bytes.len() >= 8 && bytes.len() == 8 + item * bytes[7] as usize
 }
 
 fn read_data(size: RingSize, bytes: &[u8]) -> Result<Frame, Refusal>
     ensures answer { meant frame_of result ≡ data_by_rule size.heads bytes.now }
     ensures rest { IfOk result FrameRest }
 {
-    if !is_counted(bytes, 1) {
+    let Some((front, rest)) = bytes.split_first_chunk::<8>() else {
+        return Err(Refusal::NotAFrame);
+    };
+    let [_, source, a, b, c, d, level, len] = *front;
+    if rest.len() != len as usize {
         return Err(Refusal::NotAFrame);
     }
-    let name = read_name(size, bytes, 1)?;
-    match Body::new(&bytes[8..]) {
-        Ok(body) => Ok(Frame::Data { name, body }),
+    let name = read_name(size, [source, a, b, c, d, level])?;
+    match Body::try_from(rest) {
+        Ok(body) => Ok(Frame::Data(Message { name, body })),
         Err(_) => Err(Refusal::FieldOutOfRange),
     }
 }
@@ -98,37 +87,27 @@ fn read_ack(size: RingSize, bytes: &[u8]) -> Result<Frame, Refusal>
     ensures answer { meant frame_of result ≡ ack_by_rule size.heads bytes.now }
     ensures rest { IfOk result FrameRest }
 {
-    if !is_counted(bytes, 6) {
+    let Some((front, rest)) = bytes.split_first_chunk::<8>() else {
+        return Err(Refusal::NotAFrame);
+    };
+    let [_, a, b, c, d, issuer, next, count] = *front;
+    if rest.len() != 6 * count as usize {
         return Err(Refusal::NotAFrame);
     }
-    let issuer = bytes[5];
-    let count = bytes[7];
-    if count > 4 || issuer >= size.heads || bytes[6] != (issuer + 1) % size.heads {
+    if count > 4 || issuer >= size.heads || next != (issuer + 1) % size.heads {
         return Err(Refusal::FieldOutOfRange);
     }
-    let stamp = u32::from_be_bytes([bytes[1], bytes[2], bytes[3], bytes[4]]);
-    let names = read_names(size, bytes, count as usize)?;
+    let (places, _) = rest.as_chunks::<6>();
+    let names = read_names(size, places)?;
+    let stamp = u32::from_be_bytes([a, b, c, d]);
     ranged(
         size,
-        Frame::Ack {
+        Frame::Ack(Ack {
             stamp,
             issuer,
             names,
-        },
+        }),
     )
-}
-
-fn read_kind(size: RingSize, bytes: &[u8]) -> Result<Frame, Refusal>
-    requires { 0 < length bytes.now }
-    ensures answer { meant frame_of result ≡ read_by_rule size.heads bytes.now }
-    ensures rest { IfOk result FrameRest }
-{
-    match bytes[0] {
-        1 => read_data(size, bytes),
-        2 => read_ack(size, bytes),
-        3 => read_nack(size, bytes),
-        _ => Err(Refusal::NotAFrame),
-    }
 }
 
 // The frame that the bytes are in a ring of this size, or why they are none.
@@ -138,15 +117,15 @@ pub fn read(size: RingSize, bytes: &[u8]) -> Result<Frame, Refusal>
     ensures forth { IfOk result (λ f. written size.heads (frame_of f) ≡ bytes.now) }
 {
     match bytes {
-        [] => Err(Refusal::NotAFrame),
-        _ => read_kind(size, bytes),
+        [DATA, ..] => read_data(size, bytes),
+        [ACK, ..] => read_ack(size, bytes),
+        [NACK, ..] => read_nack(size, bytes),
+        _ => Err(Refusal::NotAFrame),
     }
 }
 
 // Writing and reading undo one another, for every frame and all bytes.
-pub fn codec_laws() -> u8
+pub fn codec_laws()
     ensures reads_back { ReadsBack }
     ensures writes_back { WritesBack }
-{
-    0
-}
+{}

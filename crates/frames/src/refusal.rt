@@ -2,30 +2,45 @@
 ghost use Rattle.std.specs.Prelude.{◌≡◌};
 ghost use Rattle.frames.specs.Refusals.{number_of};
 
-use std::fmt;
+use thiserror::Error;
 
-// Every refusal of the repository, in the order of their numbers.
-#[derive(Clone, Copy, PartialEq, Eq, Debug)]
+// Every refusal of the repository, by its number and in a short sentence.
+#[derive(Clone, Copy, PartialEq, Eq, Debug, Error)]
 pub enum Refusal {
     // The fitter's doing.
-    TooManyHeads,
-    TooFewHeads,
+    #[error("a ring has at most eight heads")]
+    TooManyHeads = 1,
+    #[error("a ring has at least two heads")]
+    TooFewHeads = 2,
     // The caller's doing.
-    NoSuchHead,
-    BadLevel,
-    BadBodyLength,
-    TooManyUnordered,
-    NumbersUsedUp,
-    StampsUsedUp,
-    MemoryTooShort,
-    NoDataSlot,
+    #[error("there is no such head")]
+    NoSuchHead = 3,
+    #[error("no such level in a ring of this size")]
+    BadLevel = 4,
+    #[error("a body has 1 to 8 bytes")]
+    BadBodyLength = 5,
+    #[error("four messages of this head are not ordered yet")]
+    TooManyUnordered = 6,
+    #[error("this head's message numbers are used up")]
+    NumbersUsedUp = 7,
+    #[error("the stamps are used up")]
+    StampsUsedUp = 8,
+    #[error("the memory handed in is too short")]
+    MemoryTooShort = 9,
+    #[error("the stamp is no data slot of the queue")]
+    NoDataSlot = 10,
     // The radio's doing.
-    NotAFrame,
-    FieldOutOfRange,
-    Contradiction,
+    #[error("wrong length or unknown kind")]
+    NotAFrame = 11,
+    #[error("a field is out of range")]
+    FieldOutOfRange = 12,
+    #[error("it contradicts what this head knows")]
+    Contradiction = 13,
     // The doing of who writes bodies.
-    ValueOutOfRange,
-    NotThisKind,
+    #[error("the value is out of range")]
+    ValueOutOfRange = 14,
+    #[error("the body is not of this kind, length or range")]
+    NotThisKind = 15,
 }
 
 impl Refusal {
@@ -33,48 +48,6 @@ impl Refusal {
     pub fn number(self) -> u8
         ensures { result ≡ number_of self }
     {
-        match self {
-            Refusal::TooManyHeads => 1,
-            Refusal::TooFewHeads => 2,
-            Refusal::NoSuchHead => 3,
-            Refusal::BadLevel => 4,
-            Refusal::BadBodyLength => 5,
-            Refusal::TooManyUnordered => 6,
-            Refusal::NumbersUsedUp => 7,
-            Refusal::StampsUsedUp => 8,
-            Refusal::MemoryTooShort => 9,
-            Refusal::NoDataSlot => 10,
-            Refusal::NotAFrame => 11,
-            Refusal::FieldOutOfRange => 12,
-            Refusal::Contradiction => 13,
-            Refusal::ValueOutOfRange => 14,
-            Refusal::NotThisKind => 15,
-        }
-    }
-
-    fn sentence(self) -> &'static str {
-        match self {
-            Refusal::TooManyHeads => "a ring has at most eight heads",
-            Refusal::TooFewHeads => "a ring has at least two heads",
-            Refusal::NoSuchHead => "there is no such head",
-            Refusal::BadLevel => "no such level in a ring of this size",
-            Refusal::BadBodyLength => "a body has 1 to 8 bytes",
-            Refusal::TooManyUnordered => "four messages of this head are not ordered yet",
-            Refusal::NumbersUsedUp => "this head's message numbers are used up",
-            Refusal::StampsUsedUp => "the stamps are used up",
-            Refusal::MemoryTooShort => "the memory handed in is too short",
-            Refusal::NoDataSlot => "the stamp is no data slot of the queue",
-            Refusal::NotAFrame => "wrong length or unknown kind",
-            Refusal::FieldOutOfRange => "a field is out of range",
-            Refusal::Contradiction => "it contradicts what this head knows",
-            Refusal::ValueOutOfRange => "the value is out of range",
-            Refusal::NotThisKind => "the body is not of this kind, length or range",
-        }
-    }
-}
-
-impl fmt::Display for Refusal {
-    fn fmt<W: fmt::Write>(&self, f: &mut fmt::Formatter<W>) -> fmt::Result {
-        write!(f, "{}", self.sentence())
+        self as u8
     }
 }

@@ -1,24 +1,33 @@
 // Sizes, levels, names, bodies, frames and packets. Each holds only what can be meant: the ghost fields say so.
-ghost use Rattle.std.specs.Prelude.{◌≡◌, ◌<◌, ◌≤◌, true, length};
-ghost use Rattle.frames.specs.Bounds.{body_length_ok};
+ghost use Rattle.std.specs.Prelude.{◌<◌, ◌≤◌};
+
+use crate::table::Table;
 
 // How many heads a ring has.
-#[derive(Clone, Copy)]
+#[derive(Clone, Copy, PartialEq, Eq, Debug)]
 pub struct RingSize {
     pub heads: u8,
     ghost least: { 2 ≤ heads },
     ghost most: { heads ≤ 8 },
 }
 
-// How many other heads a message waits for: 0 total, 1 to 7 that many, 8 majority, 9 safe.
-#[derive(Clone, Copy, PartialEq, Eq)]
-pub struct Level {
-    pub number: u8,
-    ghost known: { number ≤ 9 },
+// How many other heads a message waits for: none, so many, the majority, or all.
+#[derive(Clone, Copy, PartialEq, Eq, Debug)]
+pub enum Level {
+    Total = 0,
+    One = 1,
+    Two = 2,
+    Three = 3,
+    Four = 4,
+    Five = 5,
+    Six = 6,
+    Seven = 7,
+    Majority = 8,
+    Safe = 9,
 }
 
 // A message by its source, its number there and its level.
-#[derive(Clone, Copy)]
+#[derive(Clone, Copy, PartialEq, Eq, Debug)]
 pub struct Name {
     pub source: u8,
     pub number: u32,
@@ -28,54 +37,52 @@ pub struct Name {
     ghost small: { number ≤ 500000 },
 }
 
-// The names of an ACK: the first count of four places.
-#[derive(Clone, Copy)]
-pub struct Names {
-    pub all: [Name; 4],
-    pub count: u8,
-    ghost places: { length all ≡ 4 },
-    ghost few: { count ≤ 4 },
-}
+// The names of an ACK: at most four.
+pub type Names = Table<Name, 4>;
 
-// What a message says: the first len of eight bytes.
+// What a message says: one to eight bytes.
 #[derive(Clone, Copy)]
 pub struct Body {
-    pub bytes: [u8; 8],
-    pub len: u8,
-    ghost places: { length bytes ≡ 8 },
-    ghost fits: { body_length_ok len ≡ true },
+    pub bytes: Table<u8, 8>,
+    ghost some: { 1 ≤ bytes.count },
+}
+
+// A frame's bytes, as a link carries them. No frame is longer than 32.
+pub type Packet = Table<u8, 32>;
+
+// A message, as it is sent.
+#[derive(Clone, Copy)]
+pub struct Message {
+    pub name: Name,
+    pub body: Body,
+}
+
+// An ACK orders the messages that it names: they have the stamps after its own. The head after the issuer is next.
+#[derive(Clone, Copy)]
+pub struct Ack {
+    pub stamp: u32,
+    pub issuer: u8,
+    pub names: Names,
 }
 
 // Whom a NACK asks.
-#[derive(Clone, Copy, PartialEq, Eq)]
+#[derive(Clone, Copy, PartialEq, Eq, Debug)]
 pub enum To {
     Head(u8),
     Everyone,
 }
 
-#[derive(Clone, Copy)]
-pub enum Frame {
-    Data {
-        name: Name,
-        body: Body,
-    },
-    Ack {
-        stamp: u32,
-        issuer: u8,
-        names: Names,
-    },
-    Nack {
-        from: u8,
-        to: To,
-        stamp: u32,
-    },
+// Who lacks the slot at a stamp, and whom it asks.
+#[derive(Clone, Copy, PartialEq, Eq, Debug)]
+pub struct Nack {
+    pub from: u8,
+    pub to: To,
+    pub stamp: u32,
 }
 
-// A frame's bytes, as a link carries them: the first len of 32. No frame is longer.
 #[derive(Clone, Copy)]
-pub struct Packet {
-    pub bytes: [u8; 32],
-    pub len: u8,
-    ghost places: { length bytes ≡ 32 },
-    ghost fits: { len ≤ 32 },
+pub enum Frame {
+    Data(Message),
+    Ack(Ack),
+    Nack(Nack),
 }

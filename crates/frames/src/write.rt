@@ -1,15 +1,14 @@
-// Writing bytes: bodies, packets and frames.
+// Writing frames.
 ghost use Rattle.std.specs.Prelude.{◌≡◌, ℕ, ◌+◌, ◌*◌, ◌<◌, ◌≤◌, true, length, take, is_ok, IfOk, if◌then◌else◌, Ok};
 ghost use Rattle.std.proofs.Math.Seq.{paste};
-ghost use Rattle.frames.specs.Bounds.{body_length_ok};
 ghost use Rattle.frames.specs.Values.{frame_ok, data_frame, ack_frame, nack_frame};
-ghost use Rattle.frames.specs.Types.{meant, name_of, names_of, asked_of, body_of, message_of, packet_of, frame_of, BodyRest, PacketRest};
-ghost use Rattle.frames.specs.Made.{body_for, packet_for};
-ghost use Rattle.frames.specs.Written.{name_bytes, written, write_answer, pack_answer, front_written};
+ghost use Rattle.frames.specs.Types.{meant, asked_of, message_meant, ack_meant, packet_of, frame_of, PacketRest};
+ghost use Rattle.frames.specs.Written.{written, write_answer, pack_answer, front_written};
 ghost use Rattle.frames.specs.Reading.{read};
 
+use crate::read::{ACK, DATA, NACK};
 use crate::refusal::Refusal;
-use crate::types::{Body, Frame, Name, Names, Packet, RingSize, To};
+use crate::types::{Ack, Frame, Message, Nack, Packet, RingSize};
 
 // Copies the bytes into out from `at` on.
 fn put(out: &mut [u8], at: usize, bytes: &[u8])
@@ -19,137 +18,42 @@ fn put(out: &mut [u8], at: usize, bytes: &[u8])
     out[at..at + bytes.len()].copy_from_slice(bytes);
 }
 
-impl Body {
-    pub fn new(bytes: &[u8]) -> Result<Body, Refusal>
-        ensures answer { meant body_of result ≡ body_for bytes.now }
-        ensures rest { IfOk result BodyRest }
+impl Message {
+    fn write(&self, out: &mut [u8])
+        requires { 8 + self.now.body.bytes.count ≤ length out.old }
+        ensures { (n : ℕ) → out.new ≡ front_written n (data_frame (message_meant self.now)) out.old }
     {
-        let len = bytes.len();
-        if len < 1 || len > 8 {
-            Err(Refusal::BadBodyLength)
-        } else {
-            Ok(Body::copied(bytes))
+        let [source, a, b, c, d, level] = self.name.to_bytes();
+        let len = self.body.bytes.count as u8;
+        put(out, 0, &[DATA, source, a, b, c, d, level, len]);
+        put(out, 8, self.body.as_slice());
+    }
+}
+
+impl Ack {
+    fn write(&self, size: RingSize, out: &mut [u8])
+        requires room { 8 + 6 * self.now.names.count ≤ length out.old }
+        requires issuer { self.now.issuer < 8 }
+        ensures { out.new ≡ front_written size.heads (ack_frame (ack_meant self.now)) out.old }
+    {
+        let [a, b, c, d] = self.stamp.to_be_bytes();
+        let next = (self.issuer + 1) % size.heads;
+        let count = self.names.count as u8;
+        put(out, 0, &[ACK, a, b, c, d, self.issuer, next, count]);
+        for (i, name) in self.names.as_slice().iter().enumerate() {
+            put(out, 8 + 6 * i, &name.to_bytes());
         }
     }
-
-    fn copied(bytes: &[u8]) -> Body
-        requires { body_length_ok (length bytes.now) ≡ true }
-        ensures bytes { body_of result ≡ bytes.now }
-        ensures rest { BodyRest result }
-    {
-        let mut all = [0; 8];
-        put(&mut all, 0, bytes);
-        Body {
-            bytes: all,
-            len: bytes.len() as u8,
-        }
-    }
-
-    pub fn as_slice(&self) -> &[u8]
-        ensures { result.now ≡ body_of self.now }
-    {
-        &self.bytes[0..self.len as usize]
-    }
 }
 
-impl Packet {
-    pub fn new(bytes: &[u8]) -> Result<Packet, Refusal>
-        ensures answer { meant packet_of result ≡ packet_for bytes.now }
-        ensures rest { IfOk result PacketRest }
+impl Nack {
+    fn write(&self, out: &mut [u8])
+        requires { 7 ≤ length out.old }
+        ensures { (n : ℕ) → out.new ≡ front_written n (nack_frame self.now.from (asked_of self.now.to) self.now.stamp) out.old }
     {
-        if bytes.len() > 32 {
-            Err(Refusal::NotAFrame)
-        } else {
-            Ok(Packet::copied(bytes))
-        }
+        let [a, b, c, d] = self.stamp.to_be_bytes();
+        put(out, 0, &[NACK, self.from, u8::from(self.to), a, b, c, d]);
     }
-
-    fn copied(bytes: &[u8]) -> Packet
-        requires { length bytes.now ≤ 32 }
-        ensures bytes { packet_of result ≡ bytes.now }
-        ensures rest { PacketRest result }
-    {
-        let mut all = [0; 32];
-        put(&mut all, 0, bytes);
-        Packet {
-            bytes: all,
-            len: bytes.len() as u8,
-        }
-    }
-
-    pub fn as_slice(&self) -> &[u8]
-        ensures { result.now ≡ packet_of self.now }
-    {
-        let used = self.len as usize;
-        &self.bytes[0..used]
-    }
-}
-
-fn write_data(name: Name, body: Body, out: &mut [u8])
-    requires { 8 + body.len ≤ length out.old }
-    ensures { (n : ℕ) → out.new ≡ front_written n (data_frame (message_of name body)) out.old }
-{
-    let number = name.number.to_be_bytes();
-    put(
-        out,
-        0,
-        &[
-            1,
-            name.source,
-            number[0],
-            number[1],
-            number[2],
-            number[3],
-            name.level.number,
-            body.len,
-        ],
-    );
-    put(out, 8, &body.bytes[0..body.len as usize]);
-}
-
-fn write_name(name: Name, out: &mut [u8], at: usize)
-    requires { at + 6 ≤ length out.old }
-    ensures { out.new ≡ paste out.old at (name_bytes (name_of name)) 6 }
-{
-    let number = name.number.to_be_bytes();
-    put(
-        out,
-        at,
-        &[
-            name.source,
-            number[0],
-            number[1],
-            number[2],
-            number[3],
-            name.level.number,
-        ],
-    );
-}
-
-fn write_ack(size: RingSize, stamp: u32, issuer: u8, names: Names, out: &mut [u8])
-    requires room { 8 + 6 * names.count ≤ length out.old }
-    requires issuer { issuer < 8 }
-    ensures { out.new ≡ front_written size.heads (ack_frame (record { stamp = stamp; issuer = issuer; names = names_of names })) out.old }
-{
-    let next = (issuer + 1) % size.heads;
-    let b = stamp.to_be_bytes();
-    put(
-        out,
-        0,
-        &[2, b[0], b[1], b[2], b[3], issuer, next, names.count],
-    );
-    for i in 0..names.count as usize {
-        let name = names.all[i];
-        write_name(name, out, 8 + 6 * i);
-    }
-}
-
-fn write_nack(from: u8, to: To, stamp: u32, out: &mut [u8])
-    requires { 7 ≤ length out.old }
-    ensures { (n : ℕ) → out.new ≡ front_written n (nack_frame from (asked_of to) stamp) out.old }
-{
-    let b = stamp.to_be_bytes();
-    put(out, 0, &[3, from, to.byte(), b[0], b[1], b[2], b[3]]);
 }
 
 fn write_front(size: RingSize, frame: Frame, out: &mut [u8])
@@ -158,13 +62,9 @@ fn write_front(size: RingSize, frame: Frame, out: &mut [u8])
     ensures { out.new ≡ front_written size.heads (frame_of frame) out.old }
 {
     match frame {
-        Frame::Data { name, body } => write_data(name, body, out),
-        Frame::Ack {
-            stamp,
-            issuer,
-            names,
-        } => write_ack(size, stamp, issuer, names, out),
-        Frame::Nack { from, to, stamp } => write_nack(from, to, stamp, out),
+        Frame::Data(message) => message.write(out),
+        Frame::Ack(ack) => ack.write(size, out),
+        Frame::Nack(nack) => nack.write(out),
     }
 }
 
@@ -191,13 +91,10 @@ fn packed(size: RingSize, frame: Frame) -> Packet
     ensures rest { PacketRest result }
     ensures back { read size.heads (packet_of result) ≡ Ok (frame_of frame) }
 {
-    let len = frame.len();
-    let mut bytes = [0; 32];
-    write_front(size, frame, &mut bytes);
-    Packet {
-        bytes,
-        len: len as u8,
-    }
+    let count = frame.len();
+    let mut places = [0; 32];
+    write_front(size, frame, &mut places);
+    Packet { places, count }
 }
 
 // The frame as a packet, for a link to carry.

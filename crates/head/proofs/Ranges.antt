@@ -119,7 +119,7 @@ module _ (n : ℕ) (x : Head) (r : InRange n x) where
         ]
       ]
 
-  place_ranged : (a : Ack) → frame_ok n (ack_frame a) ≡ true → InRange n (place x a)
+  pub place_ranged : (a : Ack) → frame_ok n (ack_frame a) ≡ true → InRange n (place x a)
   unfolding place sweep set_slots
   place_ranged a ok = record {
     one_of_n = r.one_of_n;
@@ -158,7 +158,7 @@ module _ (n : ℕ) (x : Head) (r : InRange n x) where
     slots_ok = λ t. elim (cases_lt t (give_up_one x m).base) [ inl e ↦ ap (slot_ok n t) (up_drop x m t e) | inr e ↦ ap (slot_ok n t) (up_keep x m t e) ∙ r.slots_ok t ];
   }
 
-  clock_ranged : (t u : ℕ) → InRange n (with_clock x t u)
+  pub clock_ranged : (t u : ℕ) → InRange n (with_clock x t u)
   clock_ranged t u = record { one_of_n = r.one_of_n; from_one = r.from_one; pending_ok = r.pending_ok; slots_ok = r.slots_ok }
 
   due_ranged : (d : ℕ) → InRange n (with_due x d)
@@ -220,7 +220,7 @@ unfolding gather
 gather_ok n x zero s b r = refl
 gather_ok n x (suc j) s b r = names_join n (run_of x.pending s b (suc (low x s))) (gather n x j (after n s) (b - length (run_of x.pending s b (suc (low x s))))) (run_ok n x s b (suc (low x s)) r) (gather_ok n x j (after n s) (b - length (run_of x.pending s b (suc (low x s)))) r)
 
-order_ok : (n : ℕ) (x : Head) → InRange n x → names_ok n (to_order n x) ≡ true
+pub order_ok : (n : ℕ) (x : Head) → InRange n x → names_ok n (to_order n x) ≡ true
 unfolding to_order
 order_ok n x r = gather_ok n x n x.me 4 r
 
@@ -316,7 +316,7 @@ module _ (n : ℕ) (x : Head) (r : InRange n x) where
   unfolding end
   end_from = omega (arith, (past_last_ends known x.queue 96 x.base).from, r.from_one)
 
-  new_ok : (xs : List Name) → length xs ≤ 4 → names_ok n xs ≡ true → stamps_left x ≡ true → frame_ok n (ack_frame (new_ack x xs)) ≡ true
+  pub new_ok : (xs : List Name) → length xs ≤ 4 → names_ok n xs ≡ true → stamps_left x ≡ true → frame_ok n (ack_frame (new_ack x xs)) ≡ true
   new_ok xs few ok left =
       let top : end x + 4 ≤ 1000000 = leb-true (end x + 4) 1000000 (and_parts (leb 1 (end x + 4)) (leb (end x + 4) 1000000) left).1 in
       and_from _ _ (le-leb 1 (end x) end_from) (and_from _ _ (le-leb (end x + length xs) 1000000 (omega arith)) (and_from _ _ (lt-ltb x.me n r.one_of_n) (and_from _ _ (le-leb (length xs) 4 few) ok)))

@@ -7,20 +7,16 @@ ghost use Rattle.head.specs.Ranges.{StaysInRange};
 ghost use Rattle.head.specs.Leaves.{Leaves, StaysInOrder};
 
 /// What the machine answers and puts in the worked cases, and in three runs of random calls.
-pub fn worked_cases() -> u8
+pub fn worked_cases()
     ensures cases { WorkedCases }
     ensures runs { SampleRuns }
     ensures wired { WiredCases }
-{
-    0
-}
+{}
 
 /// No call takes back what a head has, every frame that it puts can be written, and each call leaves as it was all but what its answer says.
-pub fn head_laws() -> u8
+pub fn head_laws()
     ensures never_falls { NeverFalls }
     ensures stays_in_range { StaysInRange }
     ensures leaves { Leaves }
     ensures stays_in_order { StaysInOrder }
-{
-    0
-}
+{}

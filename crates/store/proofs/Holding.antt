@@ -1,6 +1,7 @@
 -- The steps of what is read off the ACKs of a queue: past ACKs, the ACK that ordered a slot, and the issuers from it on.
-use Rattle.std.proofs.Common.{◌≡◌, ℕ, zero, suc, ◌+◌, ◌-◌, ◌<◌, ◌≤◌, min, Bool, true, false, not, ◌&&◌, ◌||◌, eqb, List, [], ◌∷◌, length, get_or, set, Some, None, Option, sym, refl, ap, ◌∙◌, inl, inr, arith, get_or-set_other, get_or-set_same}
-use Rattle.std.proofs.lemmas.Bool.{both_ways, cases_lt, cases_eq, eq-eqb, ne_eqb, or_left, or_right, and_from, and_left, and_right}
+use Rattle.std.proofs.Common.{◌≡◌, ℕ, zero, suc, ◌+◌, ◌-◌, ◌<◌, ◌≤◌, max, min, Bool, cond, true, false, not, ◌&&◌, ◌||◌, eqb, List, [], ◌∷◌, length, get_or, set, Some, None, Option, MatchOption, unwrap_or, sym, refl, ap, ◌∙◌, inl, inr, arith, get_or-set_other, get_or-set_same}
+use Rattle.std.proofs.lemmas.Bool.{both_ways, cases_lt, cases_eq, eq-eqb, ne_eqb, or_left, or_right, and_left}
+use Rattle.std.specs.List.{filter, range_with_len}
 use Rattle.frames.specs.Values.{Name}
 use Rattle.head.specs.Slots.{Slot, unknown, ack, bare, whole, known, is_ack}
 use Rattle.head.specs.Deliver.{stamp_of, among, orderer, others, holders, holders_from}
@@ -12,7 +13,6 @@ use Rattle.store.specs.Holders.{Keeps}
 use Rattle.store.specs.Parts.{queue_of, Passed, Ends}
 use Rattle.store.proofs.View.{queue_past}
 use Rattle.store.proofs.Looking.{last_before}
-use Rattle.store.proofs.Walks.{first_more, first_stop, first_end}
 
 ack_known : (s : Slot) → is_ack s ≡ true → known s ≡ true
 ack_known unknown e = absurd (both_ways true (sym e) refl)
@@ -21,6 +21,19 @@ ack_known (bare x) e = refl
 ack_known (whole m) e = refl
 
 -- past ACKs
+
+-- a walk stops at the first stamp where the test fails
+first_not_at : (p : Slot → Bool) (q : Queue) (k t u : ℕ) → t ≤ u → u ≤ t + k → ((v : ℕ) → t ≤ v → v < u → p (q v) ≡ true) → (u < t + k → p (q u) ≡ false) → u ≡ first_not p q k t
+first_not_at p q k t u a b f g =
+    let i = first_not_stops p q k t in
+    let r : ℕ = first_not p q k t in
+    elim (cases_lt u r) [
+      | inl l ↦ absurd (both_ways (p (q u)) (g (omega (arith, i.to))) (i.before u a l))
+      | inr l ↦ elim (cases_lt r u) [
+        | inl m ↦ absurd (both_ways (p (q r)) (i.at (omega arith)) (f r i.from m))
+        | inr m ↦ omega arith
+      ]
+    ]
 
 module _ (x : CQueue) where
   abbrev q : Queue
@@ -35,16 +48,10 @@ module _ (x : CQueue) where
         | inr h ↦ absurd (both_ways (is_ack (q s)) (ap is_ack (queue_past x.base x.slots s (omega arith))) e)
       ]
 
-  pub skip_more : (s : ℕ) → is_ack (q s) ≡ true → first_not is_ack q (x.base + 96 - (s + 1)) (s + 1) ≡ first_not is_ack q (x.base + 96 - s) s
-  skip_more s e =
-      let h = ack_within s e in
-      let f : s + 1 ≡ suc s = omega arith in
-      let g : x.base + 96 - s ≡ suc (x.base + 96 - (s + 1)) = omega arith in
-      ap (first_not is_ack q (x.base + 96 - (s + 1))) f ∙ (sym (first_more is_ack q (x.base + 96 - (s + 1)) s e) ∙ ap (λ k. first_not is_ack q k s) (sym g))
-
-  pub skip_stop : (k s : ℕ) → is_ack (q s) ≡ false → s ≡ first_not is_ack q k s
-  skip_stop zero s e = sym (first_end is_ack q s)
-  skip_stop (suc k) s e = sym (first_stop is_ack q k s e)
+  -- the first of the stamps from d on that has no ACK, or what comes after the queue
+  pub skip_is : (d : ℕ) (o : Option ℕ) → MatchOption o ((u : ℕ) → d ≤ u → u < x.base + 96 → is_ack (q u) ≡ true) (λ i. (d ≤ i) × (i < x.base + 96) × (is_ack (q i) ≡ false) × ((u : ℕ) → d ≤ u → u < i → is_ack (q u) ≡ true)) → unwrap_or o (max d (x.base + 96)) ≡ first_not is_ack q (x.base + 96 - d) d
+  skip_is d None h = first_not_at is_ack q (x.base + 96 - d) d (max d (x.base + 96)) (omega arith) (omega arith) (λ u a b. h u a (omega arith)) (λ l. absurd (omega arith))
+  skip_is d (Some i) h = first_not_at is_ack q (x.base + 96 - d) d i h.0 (omega (arith, h.1)) h.3 (λ _. h.2)
 
   module _ (d r k : ℕ) (e : r ≡ first_not is_ack q k d) where
     between : (u : ℕ) → d ≤ u → u < r → known (q u) ≡ true
@@ -90,29 +97,28 @@ last_upto x n k e = elim (cases_lt k 96) [
 
 -- the issuers from a stamp on
 
-module _ (q : Queue) (N b i : ℕ) (h : i < N) where
-  issuers_step : issuers q (N - i) (b + i) ≡ issuer_on (q (b + i)) (issuers q (N - (i + 1)) (b + (i + 1)))
+module _ (q : Queue) (e u v : ℕ) (h : u < e) (next : v ≡ suc u) where
+  issuers_step : issuers q (e - u) u ≡ issuer_on (q u) (issuers q (e - v) v)
   unfolding issuers
   issuers_step =
-      let e : N - i ≡ suc (N - (i + 1)) = omega arith in
-      let f : suc (b + i) ≡ b + (i + 1) = omega arith in
-      ap (λ k. issuers q k (b + i)) e ∙ ap (λ t. issuer_on (q (b + i)) (issuers q (N - (i + 1)) t)) f
+      let k : e - u ≡ suc (e - v) = omega arith in
+      ap (λ n. issuers q n u) k ∙ ap (λ t. issuer_on (q u) (issuers q (e - v) t)) (sym next)
 
-  pub issuers_ack : (g : ℕ) (ns : List Name) → q (b + i) ≡ ack g ns → issuers q (N - i) (b + i) ≡ g ∷ issuers q (N - (i + 1)) (b + (i + 1))
-  issuers_ack g ns e = issuers_step ∙ ap (λ s. issuer_on s (issuers q (N - (i + 1)) (b + (i + 1)))) e
+  pub issuers_ack : (g : ℕ) (ns : List Name) → q u ≡ ack g ns → issuers q (e - u) u ≡ g ∷ issuers q (e - v) v
+  issuers_ack g ns f = issuers_step ∙ ap (λ s. issuer_on s (issuers q (e - v) v)) f
 
-  pub issuers_other : is_ack (q (b + i)) ≡ false → issuers q (N - i) (b + i) ≡ issuers q (N - (i + 1)) (b + (i + 1))
-  issuers_other e = issuers_step ∙ go (q (b + i)) e
+  pub issuers_other : is_ack (q u) ≡ false → issuers q (e - u) u ≡ issuers q (e - v) v
+  issuers_other f = issuers_step ∙ go (q u) f
     where
-      go : (s : Slot) → is_ack s ≡ false → issuer_on s (issuers q (N - (i + 1)) (b + (i + 1))) ≡ issuers q (N - (i + 1)) (b + (i + 1))
+      go : (s : Slot) → is_ack s ≡ false → issuer_on s (issuers q (e - v) v) ≡ issuers q (e - v) v
       go unknown n = refl
       go (ack j ns) n = absurd (both_ways true n refl)
       go (bare x) n = refl
       go (whole m) n = refl
 
-pub issuers_end : (q : Queue) (N b i : ℕ) → N ≤ i → issuers q (N - i) (b + i) ≡ []
+pub issuers_end : (q : Queue) (e u : ℕ) → e ≤ u → issuers q (e - u) u ≡ []
 unfolding issuers
-issuers_end q N b i h = let e : N - i ≡ 0 = omega arith in ap (λ k. issuers q k (b + i)) e
+issuers_end q e u h = let k : e - u ≡ 0 = omega arith in ap (λ n. issuers q n u) k
 
 -- a table of the issuers so far, with the issuers to come
 
@@ -127,23 +133,49 @@ told_far xs j g is h = ap (λ b. get_or xs g false || (b || among g is)) (sym (n
 
 -- counting the others
 
-module _ (n me : ℕ) (is : List ℕ) where
-  pub others_none : others 0 me is ≡ 0
+-- a range with one number more
+filter_more : (p : ℕ → Bool) (n a : ℕ) → length (filter p (range_with_len a (suc n))) ≡ one_if (p (a + n)) + length (filter p (range_with_len a n))
+filter_more p zero a = let e : a ≡ a + 0 = omega arith in go (p a) ∙ ap (λ k. one_if (p k) + 0) e
+  where
+    go : (b : Bool) → length (cond b (a ∷ []) []) ≡ one_if b + 0
+    go true = refl
+    go false = refl
+filter_more p (suc n) a =
+    let e : a + 1 + n ≡ a + suc n = omega arith in
+    go (p a) (filter p (range_with_len (a + 1) (suc n))) (filter p (range_with_len (a + 1) n)) (filter_more p n (a + 1) ∙ ap (λ k. one_if (p k) + length (filter p (range_with_len (a + 1) n))) e)
+  where
+    go : (b : Bool) (xs ys : List ℕ) → length xs ≡ one_if (p (a + suc n)) + length ys → length (cond b (a ∷ xs) xs) ≡ one_if (p (a + suc n)) + length (cond b (a ∷ ys) ys)
+    go true xs ys h = omega (arith, h)
+    go false xs ys h = h
+
+heads_more : (p : ℕ → Bool) (n : ℕ) → length (filter p (range_with_len 0 (suc n))) ≡ one_if (p n) + length (filter p (range_with_len 0 n))
+heads_more p n = let e : 0 + n ≡ n = omega arith in filter_more p n 0 ∙ ap (λ k. one_if (p k) + length (filter p (range_with_len 0 n))) e
+
+one_if-le : (b : Bool) → one_if b ≤ 1
+one_if-le true = omega arith
+one_if-le false = omega arith
+
+module _ (me : ℕ) (xs : List Bool) where
+  abbrev pub other : ℕ → Bool
+  other g = not (eqb g me) && get_or xs g false
+
+  -- the others in a table
+  pub others_list : (n : ℕ) (is : List ℕ) → n ≤ 8 → ((g : ℕ) → g < 8 → get_or xs g false ≡ among g is) → length (filter other (range_with_len 0 n)) ≡ others n me is
   unfolding others
-  others_none = refl
+  others_list zero is h t = refl
+  others_list (suc n) is h t = heads_more other n ∙ (ap (λ b. one_if (not (eqb n me) && b) + length (filter other (range_with_len 0 n))) (t n (omega arith)) ∙ ap (λ k. one_if (not (eqb n me) && among n is) + k) (others_list n is (omega arith) t))
 
-  others_step : (b : Bool) → (not (eqb n me) && among n is) ≡ b → others (n + 1) me is ≡ one_if b + others n me is
-  unfolding others
-  others_step b e = let f : n + 1 ≡ suc n = omega arith in ap (λ k. others k me is) f ∙ ap (λ t. one_if t + others n me is) e
+  others_few : (n : ℕ) → length (filter other (range_with_len 0 n)) ≤ n
+  others_few zero = omega arith
+  others_few (suc n) = omega (arith, heads_more other n, others_few n, one_if-le (other n))
 
-  pub others_one : (n ≡ me → ⊥) → among n is ≡ true → others (n + 1) me is ≡ 1 + others n me is
-  others_one ne a = others_step true (and_from (not (eqb n me)) (among n is) (ap not (ne_eqb n me ne)) a)
-
-  pub others_me : n ≡ me → others (n + 1) me is ≡ 0 + others n me is
-  others_me e = others_step false (and_left (not (eqb n me)) (among n is) (ap not (eq-eqb n me e)))
-
-  pub others_not : among n is ≡ false → others (n + 1) me is ≡ 0 + others n me is
-  others_not a = others_step false (and_right (not (eqb n me)) (among n is) a)
+  -- this head is none of them
+  pub others_fewer : (n : ℕ) → me < n → length (filter other (range_with_len 0 n)) < n
+  others_fewer zero h = absurd (omega arith)
+  others_fewer (suc n) h = elim (cases_eq n me) [
+    | inl e ↦ omega (arith, heads_more other n, ap one_if (and_left (not (eqb n me)) (get_or xs n false) (ap not (eq-eqb n me e))), others_few n)
+    | inr ne ↦ omega (arith, heads_more other n, one_if-le (other n), others_fewer n (omega arith))
+  ]
 
 pub or_none : (b : Bool) → b ≡ (b || false)
 or_none true = refl

@@ -1,5 +1,6 @@
 pub mod View
 pub mod Walks
+pub mod Listed
 pub mod Naming
 pub mod Windows
 pub mod Placing

@@ -1,37 +1,19 @@
 -- The steps of what is read off a queue, and of the frames that are put.
-use Rattle.std.proofs.Common.{◌≡◌, ℕ, zero, suc, ◌+◌, ◌%◌, ◌^◌, ◌<◌, ◌≤◌, min, true, false, cond, not, ◌||◌, eqb, leb, List, [], ◌∷◌, ◌++◌, map, length, get_or, take, set, Some, None, Option, sym, refl, ap, ◌∙◌, arith, pow_mono}
-use Rattle.std.proofs.lemmas.List.{length-map, length-take-le, map-append, take_more_set}
-use Rattle.std.proofs.lemmas.Bool.{le-leb, lt-leb, eq-eqb, ne_eqb, cond-true, cond-false}
+use Rattle.std.proofs.Common.{◌≡◌, ℕ, zero, suc, ◌+◌, ◌%◌, ◌^◌, ◌<◌, ◌≤◌, min, Bool, true, false, cond, not, ◌||◌, eqb, leb, ltb, List, [], ◌∷◌, ◌++◌, map, length, Some, None, Option, sym, refl, ap, ◌∙◌, arith, pow_mono}
+use Rattle.std.proofs.lemmas.List.{length-map, map-append}
+use Rattle.std.proofs.lemmas.Bool.{le-leb, lt-leb, lt-ltb, eq-eqb, ne_eqb, cond-true, cond-false}
 use Rattle.frames.specs.declared.types.Frame.{Frame as CFrame}
-use Rattle.frames.specs.declared.types.Names.{Names}
-use Rattle.frames.proofs.Naming.{length-names_of}
+use Rattle.frames.specs.declared.table.Table.{Table}
+use Rattle.frames.proofs.Naming.{length-items, length-names_of}
+use Rattle.frames.specs.Tables.{items}
+use Rattle.frames.specs.declared.types.Name.{Name as CName}
 use Rattle.frames.specs.Types.{frame_of, names_of}
 use Rattle.frames.specs.Values.{Name, Ack, one, everyone}
 use Rattle.head.specs.Head.{Head, top}
 use Rattle.head.specs.Slots.{Slot, unknown, ack, bare, whole, is_ack}
 use Rattle.head.specs.Queue.{Queue, ack_at, or_else, last_ack}
 use Rattle.head.specs.Tick.{another, asked, busy, issuer_or}
-use Rattle.store.specs.declared.types.Slot.{Slot as CSlot}
-use Rattle.store.specs.declared.types.Slot.TheVariants.{Unknown, Ack as CAck, Data}
-use Rattle.store.specs.declared.types.Queue.{Queue as CQueue}
-use Rattle.store.specs.declared.types.Frames.{Frames}
-use Rattle.store.specs.Parts.{slot_of, queue_of}
 use Rattle.store.specs.Puts.{puts_of}
-use Rattle.store.proofs.View.{queue_read}
-
--- the slot at a stamp
-
-pub ack_read : (q : CQueue) (i g : ℕ) (ns : Names) (z : CSlot) → i < 96 → get_or q.slots i z ≡ CAck g ns → queue_of q.base q.slots (q.base + i) ≡ ack g (names_of ns)
-ack_read q i g ns z h e = let f = q.places in queue_read q.base q.slots i z (omega arith) ∙ ap slot_of e
-
-other_slot : (x : CSlot) → ((g : ℕ) (ns : Names) → x ≡ CAck g ns → ⊥) → is_ack (slot_of x) ≡ false
-other_slot Unknown h = refl
-other_slot (CAck g ns) h = absurd (h g ns refl)
-other_slot (Data x None) h = refl
-other_slot (Data x (Some b)) h = refl
-
-pub other_read : (q : CQueue) (i : ℕ) (z : CSlot) → i < 96 → ((g : ℕ) (ns : Names) → get_or q.slots i z ≡ CAck g ns → ⊥) → is_ack (queue_of q.base q.slots (q.base + i)) ≡ false
-other_read q i z h e = let f = q.places in ap is_ack (queue_read q.base q.slots i z (omega arith)) ∙ other_slot (get_or q.slots i z) e
 
 -- an ACK, or something else, at the last of k stamps
 
@@ -71,13 +53,13 @@ module _ (q : Queue) where
     unfolding busy
     busy_ack i ns g = busy_counts ∙ rw (g, busy)
 
-    pub busy_here : (i : ℕ) (ns : Names) → q (t + j) ≡ ack i (names_of ns) → 0 < ns.count → true ≡ busy q k t c
+    pub busy_here : (i : ℕ) (ns : Table CName 4) → q (t + j) ≡ ack i (names_of ns) → 0 < ns.count → true ≡ busy q k t c
     busy_here i ns g some =
         let l = length-names_of ns in
         sym (busy_ack i (names_of ns) g ∙ ap (λ b. not b || busy q j t d) (ne_eqb (length (names_of ns)) 0 (λ z. omega arith)))
 
     -- an ACK of no names counts as one of the last
-    pub busy_less : (i : ℕ) (ns : Names) → q (t + j) ≡ ack i (names_of ns) → ns.count ≤ 0 → busy q j t d ≡ busy q k t c
+    pub busy_less : (i : ℕ) (ns : Table CName 4) → q (t + j) ≡ ack i (names_of ns) → ns.count ≤ 0 → busy q j t d ≡ busy q k t c
     busy_less i ns g nothing =
         let l = length-names_of ns in
         sym (busy_ack i (names_of ns) g ∙ ap (λ b. not b || busy q j t d) (eq-eqb (length (names_of ns)) 0 (omega arith)))
@@ -114,11 +96,9 @@ module _ (n : ℕ) (h : Head) (a : Option Ack) (me r : ℕ) (mine : h.me ≡ me)
 
 -- the frames of one call
 
-pub length-puts_of : (fs : Frames) → length (puts_of fs) ≡ fs.count
-length-puts_of fs =
-    let p = fs.places in
-    let f = fs.few in
-    length-map (take fs.count fs.all) frame_of ∙ length-take-le fs.count fs.all (omega arith)
+pub length-puts_of : (fs : Table CFrame 3) → length (puts_of fs) ≡ fs.count
+length-puts_of fs = length-map (items fs) frame_of ∙ length-items fs
 
-pub puts_more : (fs : List CFrame) (k : ℕ) (f : CFrame) → k < length fs → map frame_of (take (k + 1) (set fs k f)) ≡ map frame_of (take k fs) ++ frame_of f ∷ []
-puts_more fs k f h = ap (map frame_of) (take_more_set fs k f h) ∙ map-append frame_of (take k fs) (f ∷ [])
+-- one frame more, where there is room
+pub puts_more : (fs gs : Table CFrame 3) (f : CFrame) (room : Bool) → room ≡ ltb fs.count 3 → items gs ≡ cond room (items fs ++ f ∷ []) (items fs) → fs.count < 3 → puts_of gs ≡ puts_of fs ++ frame_of f ∷ []
+puts_more fs gs f room r e h = ap (map frame_of) (e ∙ cond-true room (items fs ++ f ∷ []) (items fs) (r ∙ lt-ltb fs.count 3 h)) ∙ map-append frame_of (items fs) (f ∷ [])

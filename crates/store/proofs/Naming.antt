@@ -1,52 +1,37 @@
--- The steps of the loops over names, and equal names and bodies.
-use Rattle.std.proofs.Common.{◌≡◌, ℕ, suc, ◌+◌, ◌<◌, ◌≤◌, Bool, true, false, ◌&&◌, ◌||◌, eqb, List, [], ◌∷◌, length, get_or, sym, refl, ap, ◌∙◌}
-use Rattle.std.specs.Str.{bytes_eq}
-use Rattle.std.proofs.lemmas.Bool.{or_left, and_left}
+-- The equality and the tests of names and bodies, over lists.
+use Rattle.std.proofs.Common.{◌≡◌, ℕ, ◌+◌, Bool, ◌&&◌, ◌||◌, List, [], ◌∷◌, map, drop, sym, refl, ap, ◌∙◌}
+use Rattle.std.specs.List.{list_any, enumerate_from}
+use Rattle.std.specs.Cmp.Lexicographic.{pointwise}
+use Rattle.std.proofs.lemmas.List.{drop-drop}
 use Rattle.frames.specs.declared.types.Name.{Name as CName}
-use Rattle.frames.specs.declared.types.Names.{Names}
-use Rattle.frames.specs.Values.{Name}
 use Rattle.frames.specs.Types.{name_of}
-use Rattle.frames.proofs.Naming.{from, from_more, from_end}
-use Rattle.head.specs.Slots.{same_name, same_names, same_bytes}
+use Rattle.frames.specs.Values.{Name}
+use Rattle.head.specs.Slots.{listed, same_message, same_name, same_names, twice}
 
--- a test that goes through the names by ||
-module _ (F : List Name → Bool) (t : Name → List Name → Bool) (step : (x : Name) (xs : List Name) → F (x ∷ xs) ≡ (t x xs || F xs)) (ns : Names) (i : ℕ) (z : CName) (h : i < ns.count) where
-  split : F (from ns i) ≡ (t (name_of (get_or ns.all i z)) (from ns (i + 1)) || F (from ns (i + 1)))
-  split = ap F (from_more ns i z h) ∙ step (name_of (get_or ns.all i z)) (from ns (i + 1))
+-- equal lists of names, where E compares two names
+names_same : (E : CName → CName → Bool) → ((a b : CName) → E a b ≡ same_name (name_of a) (name_of b)) → (xs ys : List CName) → pointwise E xs ys ≡ same_names (map name_of xs) (map name_of ys)
+names_same E e [] [] = refl
+names_same E e [] (y ∷ ys) = refl
+names_same E e (x ∷ xs) [] = refl
+names_same E e (x ∷ xs) (y ∷ ys) = (λ j. e x y j && names_same E e xs ys j)
 
-  pub any_hit : t (name_of (get_or ns.all i z)) (from ns (i + 1)) ≡ true → true ≡ F (from ns i)
-  any_hit e = sym (split ∙ or_left _ _ e)
+pub is_same_names : {E : CName → CName → Bool} (r : Bool) (xs ys : List CName) → r ≡ pointwise E xs ys → ((a b : CName) → E a b ≡ same_name (name_of a) (name_of b)) → r ≡ same_names (map name_of xs) (map name_of ys)
+is_same_names {E} r xs ys h e = h ∙ names_same E e xs ys
 
-  pub any_miss : t (name_of (get_or ns.all i z)) (from ns (i + 1)) ≡ false → F (from ns (i + 1)) ≡ F (from ns i)
-  any_miss e = sym (split ∙ ap (λ b. b || F (from ns (i + 1))) e)
+pub listed_any : (x : Name) (ys : List CName) → list_any (λ y. same_message x (name_of y)) ys ≡ listed x (map name_of ys)
+listed_any x [] = refl
+listed_any x (y ∷ ys) = ap (λ b. same_message x (name_of y) || b) (listed_any x ys)
 
-pub any_end : (F : List Name → Bool) (ns : Names) (i : ℕ) → F [] ≡ false → ns.count ≤ i → false ≡ F (from ns i)
-any_end F ns i e h = sym (ap F (from_end ns i h) ∙ e)
+-- each name is looked for among those after it
+module _ (all : List CName) where
+  abbrev pub again : ℕ × CName → Bool
+  again p = listed (name_of p.1) (map name_of (drop (p.0 + 1) all))
 
--- the same names
+  twice_from : (i : ℕ) (xs : List CName) → drop i all ≡ xs → list_any again (enumerate_from i xs) ≡ twice (map name_of xs)
+  twice_from i [] e = refl
+  twice_from i (x ∷ xs) e =
+      let r : drop (i + 1) all ≡ xs = sym (drop-drop 1 i all) ∙ ap (drop 1) e in
+      (λ j. listed (name_of x) (map name_of (r j)) || twice_from (i + 1) xs r j)
 
-pub same_length : (xs ys : List Name) → (length xs ≡ length ys → ⊥) → same_names xs ys ≡ false
-same_length [] [] h = absurd (h refl)
-same_length [] (y ∷ ys) h = refl
-same_length (x ∷ xs) [] h = refl
-same_length (x ∷ xs) (y ∷ ys) h = ap (λ b. same_name x y && b) (same_length xs ys (λ e. h (ap suc e))) ∙ go (same_name x y)
-  where
-    go : (b : Bool) → (b && false) ≡ false
-    go true = refl
-    go false = refl
-
-module _ (ns ms : Names) (i : ℕ) (z w : CName) (h : i < ns.count) (g : i < ms.count) where
-  both : same_names (from ns i) (from ms i) ≡ (same_name (name_of (get_or ns.all i z)) (name_of (get_or ms.all i w)) && same_names (from ns (i + 1)) (from ms (i + 1)))
-  both = ap (λ (xs : List Name). same_names xs (from ms i)) (from_more ns i z h) ∙ ap (same_names (name_of (get_or ns.all i z) ∷ from ns (i + 1))) (from_more ms i w g)
-
-  pub same_fail : same_name (name_of (get_or ns.all i z)) (name_of (get_or ms.all i w)) ≡ false → false ≡ same_names (from ns i) (from ms i)
-  same_fail e = sym (both ∙ and_left _ _ e)
-
-  pub same_more : same_name (name_of (get_or ns.all i z)) (name_of (get_or ms.all i w)) ≡ true → same_names (from ns (i + 1)) (from ms (i + 1)) ≡ same_names (from ns i) (from ms i)
-  same_more e = sym (both ∙ ap (λ b. b && same_names (from ns (i + 1)) (from ms (i + 1))) e)
-
-pub bytes_same : (xs ys : List ℕ) → bytes_eq xs ys ≡ same_bytes xs ys
-bytes_same [] [] = refl
-bytes_same [] (y ∷ ys) = refl
-bytes_same (x ∷ xs) [] = refl
-bytes_same (x ∷ xs) (y ∷ ys) = ap (λ b. eqb x y && b) (bytes_same xs ys)
+  pub twice_any : list_any again (enumerate_from 0 all) ≡ twice (map name_of all)
+  twice_any = twice_from 0 all refl

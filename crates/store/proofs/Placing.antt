@@ -1,15 +1,14 @@
 -- Placing an ACK.
-use Rattle.std.proofs.Common.{◌≡◌, ℕ, zero, suc, ◌+◌, ◌-◌, ◌<◌, ◌≤◌, true, cond, ◌&&◌, eqb, ltb, leb, ◌⊎◌, List, [], ◌∷◌, length, get_or, Some, None, Option, sym, refl, ap, ◌∙◌, inl, inr, arith}
+use Rattle.std.proofs.Common.{◌≡◌, ℕ, zero, suc, ◌+◌, ◌-◌, ◌<◌, ◌≤◌, true, cond, ◌&&◌, eqb, ltb, leb, ◌⊎◌, List, [], ◌∷◌, length, map, get_or, Some, None, Option, sym, refl, ap, ◌∙◌, inl, inr, arith}
 use mathlib.Core.Path.{fun_ext}
 use Rattle.std.proofs.lemmas.Bool.{and_parts, leb-true, cases_lt, cases_eq, both_ways, eq-eqb, ne_eqb, lt-ltb, le-ltb, cond-true, cond-false}
 use Rattle.frames.specs.declared.types.Name.{Name as CName}
-use Rattle.frames.specs.declared.types.Names.{Names}
 use Rattle.frames.specs.Values.{Name, Ack}
-use Rattle.frames.specs.Types.{name_of, names_of}
+use Rattle.frames.specs.Types.{name_of}
 use Rattle.head.specs.Slots.{Slot, unknown, ack, bare, known, over, nth_slot, cells, size}
 use Rattle.head.specs.Queue.{Queue, highest, all_unknown}
 use Rattle.head.specs.Head.{Head, Kept, Pending, fill_in, filled_by, numbered_in, low, place, sweep, set_slots}
-use Rattle.frames.proofs.Naming.{length-names_of, named_at}
+use Rattle.std.proofs.lemmas.List.{get_or-map, length-map}
 use Rattle.head.proofs.Slots.{nth_out}
 use Rattle.head.proofs.Names.{all_unknown_at}
 use Rattle.store.specs.declared.types.Queue.{Queue as CQueue}
@@ -24,8 +23,9 @@ nth_bare (x ∷ xs) (suc i) z h =
     let e : suc i - 1 ≡ i = omega arith in
     cond-false (eqb (suc i) 0) (bare x) (nth_slot xs (suc i - 1)) (ne_eqb (suc i) 0 (λ f. omega arith)) ∙ (ap (nth_slot xs) e ∙ nth_bare xs i z (omega arith))
 
-pub names_at : (ns : Names) (i : ℕ) (z : CName) → i < ns.count → nth_slot (names_of ns) i ≡ bare (name_of (get_or ns.all i z))
-names_at ns i z h = nth_bare (names_of ns) i (name_of z) (omega (arith, length-names_of ns)) ∙ ap bare (named_at ns i z h)
+-- the slot of the name at a place
+pub name_slot : (xs : List CName) (i : ℕ) (x : CName) → i < length xs → x ≡ get_or xs i x → nth_slot (map name_of xs) i ≡ bare (name_of x)
+name_slot xs i x h e = nth_bare (map name_of xs) i (name_of x) (omega (arith, length-map xs name_of)) ∙ ap bare (get_or-map name_of xs i x (name_of x) h ∙ ap name_of (sym e))
 
 filled_over : (x : Name) (o : Option Kept) (y : Slot) → over (filled_by x o) y ≡ filled_by x o
 filled_over x None y = refl

@@ -1,8 +1,10 @@
 -- Giving up.
-use Rattle.std.proofs.Common.{◌≡◌, ℕ, suc, ◌+◌, ◌-◌, ◌<◌, ◌≤◌, Bool, true, false, cond, ◌&&◌, ltb, leb, List, ◌++◌, length, take, drop, replicate, Some, None, sym, refl, ap, ◌∙◌, arith}
-use Rattle.std.proofs.lemmas.List.{get_or-take, length-take-le, length-drop, take_all, drop-replicate}
+use Rattle.std.proofs.Common.{◌≡◌, ℕ, suc, ◌+◌, ◌-◌, ◌<◌, ◌≤◌, Bool, true, false, cond, ◌&&◌, ltb, leb, List, length, take, Some, None, sym, refl, ap, ◌∙◌, arith}
+use Rattle.std.specs.Bool.{then_some}
+use Rattle.std.proofs.lemmas.List.{get_or-take, length-take-le}
 use Rattle.std.proofs.lemmas.Bool.{lt-ltb, le-ltb, lt-leb, cond-false}
-use Rattle.frames.specs.declared.types.Names.{Names}
+use Rattle.frames.specs.declared.table.Table.{Table}
+use Rattle.frames.specs.declared.types.Name.{Name as CName}
 use Rattle.frames.specs.Types.{names_of}
 use Rattle.head.specs.Slots.{Slot, unknown, ack, bare, whole, known, named}
 use Rattle.head.specs.Queue.{Queue, acks, highest, raise}
@@ -18,10 +20,14 @@ use Rattle.store.proofs.View.{queue_in, queue_past}
 use Rattle.store.proofs.Walks.{highest_same, highest_forward, highest_cap}
 
 module _ (n due : ℕ) (x : CQueue) (h : Head) where
-  pub ready_ack : (i : ℕ) (ns : Names) (b : Bool) → n < acks (queue_of x.base x.slots) 96 x.base → ltb (x.base + ns.count) due ≡ b → ready n (part h due x) (ack i (names_of ns)) ≡ cond b (Some ns.count) None
-  ready_ack i ns b m e =
+  pub ready_ack : (i : ℕ) (ns : Table CName 4) → n < acks (queue_of x.base x.slots) 96 x.base → ready n (part h due x) (ack i (names_of ns)) ≡ then_some (ltb (x.base + ns.count) due) ns.count
+  ready_ack i ns m =
       ap (λ l. cond (ltb n (acks (queue_of x.base x.slots) 96 x.base) && ltb (x.base + l) due) (Some l) None) (length-names_of ns)
-      ∙ (ap (λ t. cond (t && ltb (x.base + ns.count) due) (Some ns.count) None) (lt-ltb n (acks (queue_of x.base x.slots) 96 x.base) m) ∙ ap (λ t. cond t (Some ns.count) None) e)
+      ∙ (ap (λ t. cond (t && ltb (x.base + ns.count) due) (Some ns.count) None) (lt-ltb n (acks (queue_of x.base x.slots) 96 x.base) m) ∙ go (ltb (x.base + ns.count) due))
+    where
+      go : (b : Bool) → cond b (Some ns.count) None ≡ then_some b ns.count
+      go true = refl
+      go false = refl
 
   pub ready_few : (s : Slot) → acks (queue_of x.base x.slots) 96 x.base ≤ n → ready n (part h due x) s ≡ None
   ready_few unknown m = refl
@@ -29,7 +35,7 @@ module _ (n due : ℕ) (x : CQueue) (h : Head) where
   ready_few (bare y) m = refl
   ready_few (whole y) m = refl
 
-  pub ready_rest : (s : CSlot) → ((i : ℕ) (ns : Names) → s ≡ CAck i ns → ⊥) → ready n (part h due x) (slot_of s) ≡ None
+  pub ready_rest : (s : CSlot) → ((i : ℕ) (ns : Table CName 4) → s ≡ CAck i ns → ⊥) → ready n (part h due x) (slot_of s) ≡ None
   ready_rest Unknown e = refl
   ready_rest (CAck i ns) e = absurd (e i ns refl)
   ready_rest (Data y None) e = refl
@@ -87,14 +93,6 @@ front_same b ss k s g h =
     ∙ highest_same (queue_of b (take k ss)) (queue_of b ss) s k b g (λ u x y.
     let e : queue_of b (take k ss) u ≡ queue_of b ss u = queue_in b (take k ss) u (u - b) (omega arith) ∙ (ap slot_of (get_or-take k ss (u - b) Unknown (omega arith)) ∙ sym (queue_in b ss u (u - b) (omega arith))) in
     (ap known e, ap named e))
-
-pub shift : (xs ys : List CSlot) (k : ℕ) → length xs ≡ 96 → k ≤ 96 → ys ≡ take (96 - k) (drop k xs) → ys ++ drop (96 - k - 0) (replicate 96 Unknown) ≡ drop k xs ++ replicate k Unknown
-shift xs ys k l h e =
-    let d = length-drop k xs in
-    let t : take (96 - k) (drop k xs) ≡ drop k xs = take_all (96 - k) (drop k xs) (omega arith) in
-    let r : drop (96 - k - 0) (replicate 96 Unknown) ≡ replicate (96 - (96 - k - 0)) Unknown = drop-replicate (96 - k - 0) 96 Unknown in
-    let n : 96 - (96 - k - 0) ≡ k = omega arith in
-    ap (λ zs. zs ++ drop (96 - k - 0) (replicate 96 Unknown)) (e ∙ t) ∙ ap (λ zs. drop k xs ++ zs) (r ∙ ap (λ m. replicate m Unknown) n)
 
 -- giving up a known front leaves low
 pub forward_low : (x y : CQueue) (m : ℕ) → Forward x y m → m < 96 → Passed x (suc (x.base + m)) → (s : ℕ) → low_of y s ≡ low_of x s

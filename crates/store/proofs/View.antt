@@ -1,14 +1,14 @@
 -- The laws of the model of a head: reading, setting, shifting.
-use Rattle.std.proofs.Common.{◌≡◌, ℕ, zero, suc, ◌+◌, ◌-◌, ◌<◌, ◌≤◌, Bool, true, false, cond, ◌&&◌, eqb, ltb, leb, List, ◌++◌, length, get_or, drop, set, replicate, Some, None, Option, sym, refl, ap, ◌∙◌, subst, inl, inr, arith, get_or-set_other, get_or-set_same}
+use Rattle.std.proofs.Common.{◌≡◌, ℕ, zero, suc, ◌+◌, ◌-◌, ◌<◌, ◌≤◌, Bool, true, false, cond, ◌&&◌, eqb, ltb, leb, List, ◌++◌, length, get_or, take, drop, set, replicate, Some, None, Option, sym, refl, ap, ◌∙◌, subst, inl, inr, arith, get_or-set_other, get_or-set_same}
 use mathlib.Core.Path.{fun_ext}
-use Rattle.std.proofs.lemmas.List.{get_or_past, get_or-drop, get_or_default, length-drop, get_or_append_left, get_or-append_right, get_or-replicate, length-replicate}
+use Rattle.std.proofs.lemmas.List.{get_or_past, get_or-drop, get_or-take, get_or_default, length-drop, get_or_append_left, get_or-append_right, get_or-replicate, length-replicate}
 use Rattle.std.proofs.lemmas.Bool.{cases_lt, cases_eq, eq-eqb, eqb-true, ne_eqb, le-leb, lt-leb, lt-ltb, le-ltb, cond-true, cond-false}
 use Rattle.frames.specs.declared.types.Name.{Name as CName}
-use Rattle.frames.specs.declared.types.Names.{Names}
+use Rattle.frames.specs.declared.table.Table.{Table}
 use Rattle.frames.specs.declared.types.Body.{Body}
 use Rattle.frames.specs.Values.{Name}
 use Rattle.frames.specs.Types.{name_of}
-use Rattle.head.specs.Slots.{unknown, is_ack, named}
+use Rattle.head.specs.Slots.{unknown, known, is_ack, named}
 use Rattle.head.specs.Queue.{names_it}
 use Rattle.store.specs.declared.types.Slot.{Slot as CSlot}
 use Rattle.store.specs.declared.types.Slot.TheVariants.{Unknown, Ack as CAck, Data}
@@ -44,9 +44,19 @@ queue_past b ss s h = queue_in b ss s (s - b) (omega arith) ∙ ap slot_of (get_
 pub queue_read : (b : ℕ) (ss : List CSlot) (i : ℕ) (z : CSlot) → i < length ss → queue_of b ss (b + i) ≡ slot_of (get_or ss i z)
 queue_read b ss i z h = queue_at b ss i ∙ ap slot_of (get_or_default ss i Unknown z h)
 
+-- reading among the first slots
+pub queue_front : (b : ℕ) (ss : List CSlot) (n i : ℕ) (z : CSlot) → i < n → i < length ss → queue_of b ss (b + i) ≡ slot_of (get_or (take n ss) i z)
+queue_front b ss n i z h l = queue_read b ss i z l ∙ ap slot_of (sym (get_or-take n ss i z h))
+
 -- an element that a loop or an index has read
 pub queue_item : (b : ℕ) (ss : List CSlot) (i : ℕ) (x : CSlot) → i < length ss → x ≡ get_or ss i x → queue_of b ss (b + i) ≡ slot_of x
 queue_item b ss i x h e = queue_read b ss i x h ∙ ap slot_of (sym e)
+
+-- an element that a loop over the slots from the stamp t on has read
+pub queue_rest : (b : ℕ) (ss : List CSlot) (t n i : ℕ) (x : CSlot) → b ≤ t → i < n → t - b + i < length ss → x ≡ get_or (take n (drop (t - b) ss)) i x → queue_of b ss (t + i) ≡ slot_of x
+queue_rest b ss t n i x h m l e =
+    queue_in b ss (t + i) (t - b + i) (omega arith)
+    ∙ ap slot_of (sym (e ∙ (get_or-take n (drop (t - b) ss) i x m ∙ (get_or-drop (t - b) ss i x ∙ get_or_default ss (t - b + i) x Unknown l))))
 
 -- setting
 pub queue_set : (b : ℕ) (ss : List CSlot) (i : ℕ) (x : CSlot) → i < length ss → queue_of b (set ss i x) ≡ (λ s. cond (eqb s (b + i)) (slot_of x) (queue_of b ss s))
@@ -177,11 +187,15 @@ pending_source low ws s k h = pending_at low ws s k ∙ (ap (λ (w : Window). wi
 
 -- slots by kind
 
-pub not_ack : (s : CSlot) → ((i : ℕ) (ns : Names) → s ≡ CAck i ns → ⊥) → is_ack (slot_of s) ≡ false
+pub not_ack : (s : CSlot) → ((i : ℕ) (ns : Table CName 4) → s ≡ CAck i ns → ⊥) → is_ack (slot_of s) ≡ false
 not_ack Unknown e = refl
 not_ack (CAck i ns) e = absurd (e i ns refl)
 not_ack (Data x None) e = refl
 not_ack (Data x (Some b)) e = refl
+
+pub data_known : (x : CName) (o : Option Body) → known (data_of x o) ≡ true
+data_known x None = refl
+data_known x (Some b) = refl
 
 pub data_named : (x : CName) (o : Option Body) → named (data_of x o) ≡ Some (name_of x)
 data_named x None = refl

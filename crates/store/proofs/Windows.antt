@@ -1,8 +1,8 @@
 -- The steps of the calls on an inbox.
-use Rattle.std.proofs.Common.{◌≡◌, ℕ, zero, suc, ◌+◌, ◌<◌, ◌≤◌, Bool, true, false, cond, ◌&&◌, ◌||◌, eqb, ltb, leb, ◌⊎◌, List, [], ◌∷◌, length, get_or, replicate, None, Option, sym, refl, ap, ◌∙◌, subst, inl, inr, arith}
+use Rattle.std.proofs.Common.{◌≡◌, ℕ, zero, suc, ◌+◌, ◌<◌, ◌≤◌, Bool, true, false, cond, ◌&&◌, ◌||◌, eqb, ltb, leb, ◌⊎◌, List, [], ◌∷◌, length, map, get_or, drop, replicate, None, Option, sym, refl, ap, ◌∙◌, subst, inl, inr, arith}
 use mathlib.Core.Path.{fun_ext}
-use Rattle.std.proofs.lemmas.List.{get_or_past}
-use Rattle.std.proofs.lemmas.Bool.{cases_Bool, cases_lt, cases_eq, lt-ltb, le-ltb, cond-true, cond-false, and_parts, eqb-true, leb-true}
+use Rattle.std.proofs.lemmas.List.{at_drop_all, at_drop_more, get_or_past}
+use Rattle.std.proofs.lemmas.Bool.{both_ways, cases_Bool, cases_lt, cases_eq, lt-ltb, le-ltb, le-leb, and_from, cond-true, cond-false, and_parts, eqb-true, leb-true}
 use Rattle.std.proofs.lemmas.Bool.Decides.{nat_tests}
 use Rattle.frames.specs.declared.types.Name.{Name as CName}
 use Rattle.frames.specs.Values.{Name}
@@ -10,9 +10,7 @@ use Rattle.frames.specs.Types.{name_of}
 use Rattle.head.specs.Head.{Kept, Pending, numbered_in}
 use Rattle.store.specs.declared.types.Kept.{Kept as CKept}
 use Rattle.store.specs.declared.types.Window.{Window}
-use Rattle.store.specs.Parts.{blank, pending_of, table_of, without}
-use Rattle.frames.specs.declared.types.Names.{Names}
-use Rattle.frames.proofs.Naming.{from, from_more, from_end}
+use Rattle.store.specs.Parts.{blank, in_window, pending_of, table_of, without}
 use Rattle.store.proofs.View.{pending_at, window_low, window_far}
 
 pub none_at : (j : ℕ) → get_or (replicate 4 None) j None ≡ (let n : Option CKept = None in n)
@@ -33,6 +31,18 @@ four_at w by a b c d p q r s l (suc (suc (suc (suc j)))) = sym (get_or_past w (b
 pub outside : (low : List ℕ) (ws : List Window) (s k : ℕ) → (k ≤ get_or low s 0) ⊎ (get_or low s 0 + 4 < k) → pending_of low ws s k ≡ None
 outside low ws s k (inl h) = pending_at low ws s k ∙ window_low (get_or low s 0) (get_or ws s blank).kept k h
 outside low ws s k (inr h) = let four = (get_or ws s blank).places in pending_at low ws s k ∙ window_far (get_or low s 0) (get_or ws s blank).kept k (omega arith)
+
+pub outside_window : (low : List ℕ) (ws : List Window) (s k : ℕ) → in_window (table_of low s) k ≡ false → pending_of low ws s k ≡ None
+unfolding table_of
+outside_window low ws s k e =
+    let l : ℕ = get_or low s 0 in
+    elim (cases_lt l k) [
+      | inr h ↦ outside low ws s k (inl h)
+      | inl h ↦ elim (cases_lt (l + 4) k) [
+        | inl g ↦ outside low ws s k (inr g)
+        | inr g ↦ absurd (both_ways (in_window l k) e (and_from (ltb l k) (leb k (l + 4)) (lt-ltb l k h) (le-leb k (l + 4) g)))
+      ]
+    ]
 
 -- clearing what is not there
 pub without_none : (x : Name) (p : Pending) → p x.source x.number ≡ None → p ≡ without x p
@@ -72,12 +82,18 @@ clears_is (x ∷ xs) p = clears_is xs (without x p) ∙ fun_ext (λ s. fun_ext (
     go false false y = refl
 
 -- one more name is cleared
-pub clears_more : (ns : Names) (i : ℕ) (z : CName) (p r e : Pending) → i < ns.count → r ≡ without (name_of (get_or ns.all i z)) p → clears (from ns i) p ≡ e → clears (from ns (i + 1)) r ≡ e
+pub clears_more : (xs : List CName) (i : ℕ) (x : CName) (p r e : Pending) → i < length xs → x ≡ get_or xs i x → r ≡ without (name_of x) p → clears (map name_of (drop i xs)) p ≡ e → clears (map name_of (drop (i + 1) xs)) r ≡ e
 unfolding clears
-clears_more ns i z p r e h f inv = ap (clears (from ns (i + 1))) f ∙ (sym (ap (λ (xs : List Name). clears xs p) (from_more ns i z h)) ∙ inv)
+clears_more xs i x p r e h f g inv =
+    ap (clears (map name_of (drop (i + 1) xs))) (g ∙ ap (λ y. without (name_of y) p) f) ∙ (sym (at_drop_more (λ ys. clears (map name_of ys) p) xs i x h) ∙ inv)
 
-pub clears_end : (ns : Names) (i : ℕ) (p : Pending) → ns.count ≤ i → clears (from ns i) p ≡ p
-clears_end ns i p h = ap (λ (xs : List Name). clears xs p) (from_end ns i h) ∙ clears_nil p
+pub clears_end : (xs : List CName) (i : ℕ) (p : Pending) → length xs ≤ i → clears (map name_of (drop i xs)) p ≡ p
+clears_end xs i p h = at_drop_all (λ ys. clears (map name_of ys) p) xs i h ∙ clears_nil p
+
+-- a name with no place is cleared already
+pub cleared : (low : List ℕ) (ws : List Window) (x : Name) (p : Pending) (r : Bool) → r ≡ in_window (table_of low x.source) x.number → p ≡ cond r (λ s k. cond (eqb s x.source && eqb k x.number) None (pending_of low ws s k)) (pending_of low ws) → p ≡ without x (pending_of low ws)
+cleared low ws x p true e f = f
+cleared low ws x p false e f = f ∙ without_none x (pending_of low ws) (outside_window low ws x.source x.number (sym e))
 
 -- what is not above low is not pending
 pub raised_low : (low : List ℕ) (ws : List Window) (s to : ℕ) → to ≤ get_or low s 0 → pending_of low ws ≡ (λ t k. cond (eqb t s && leb k to) None (pending_of low ws t k))

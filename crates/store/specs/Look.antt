@@ -2,14 +2,13 @@
 use Rattle.std.specs.Prelude.{List, [], ◌∷◌, Some, None, Option}
 use Rattle.frames.specs.declared.types.Frame.{Frame as CFrame}
 use Rattle.frames.specs.Values.{Ack, Message, Frame, data_frame}
-use Rattle.frames.specs.Types.{frame_of}
-use Rattle.store.specs.declared.look.Top.{Top}
-use Rattle.store.specs.Parts.{ack_of}
+use Rattle.frames.specs.declared.types.Ack.{Ack as CAck}
+use Rattle.frames.specs.Types.{ack_meant, frame_of}
 
 -- the ACK that is meant
-abbrev pub top_of : Option Top → Option Ack
+abbrev pub top_of : Option CAck → Option Ack
 top_of None = None
-top_of (Some a) = Some (ack_of a.stamp a.issuer a.names)
+top_of (Some a) = Some (ack_meant a)
 
 -- one frame, or none
 abbrev pub put_of : Option CFrame → List Frame

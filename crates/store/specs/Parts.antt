@@ -2,9 +2,9 @@
 use Rattle.std.specs.Prelude.{◌≡◌, ℕ, ◌+◌, ◌-◌, ◌<◌, ◌≤◌, Bool, true, false, cond, ◌&&◌, List, [], ◌∷◌, get_or, Some, None, Option, ◌==◌, nat_le, nat_lt, slice_index, slice_index_or, refl}
 use Rattle.frames.specs.declared.types.Body.{Body}
 use Rattle.frames.specs.declared.types.Name.{Name as CName}
-use Rattle.frames.specs.declared.types.Names.{Names}
+use Rattle.frames.specs.declared.table.Table.{Table}
 use Rattle.frames.specs.Values.{Name, Ack}
-use Rattle.frames.specs.Types.{name_of, names_of, body_of, message_of}
+use Rattle.frames.specs.Types.{level_number, name_of, names_of, body_of, message_of}
 use Rattle.head.specs.Slots.{Slot, unknown, ack, bare, whole, known, named, cells}
 use Rattle.head.specs.Queue.{Queue, highest, raise}
 use Rattle.head.specs.Head.{Head, Kept, Pending}
@@ -27,10 +27,16 @@ slot_of Unknown = unknown
 slot_of (CAck i ns) = ack i (names_of ns)
 slot_of (Data x b) = data_of x b
 
+-- the names of an ACK
+abbrev pub names_at : CSlot → Option (Table CName 4)
+names_at Unknown = None
+names_at (CAck i ns) = Some ns
+names_at (Data x b) = None
+
 -- what is pending at a place of a window
 abbrev pub kept_of : Option CKept → Option Kept
 kept_of None = None
-kept_of (Some k) = Some (record { level = k.level.number; body = body_of k.body })
+kept_of (Some k) = Some (record { level = level_number k.level; body = body_of k.body })
 
 -- nothing is pending
 abbrev pub blank : Window
@@ -39,6 +45,10 @@ blank = record { kept = None ∷ None ∷ None ∷ None ∷ []; places = refl }
 -- the slots from a base on: unknown outside
 unfoldable pub queue_of : ℕ → List CSlot → Queue
 queue_of b ss s = cond (nat_le b s) (slot_of (slice_index_or ss (s - b) Unknown)) unknown
+
+-- what stands at each stamp of a queue
+abbrev pub slots_of : CQueue → Queue
+slots_of q = queue_of q.base q.slots
 
 -- a number for each source: 0 outside
 unfoldable pub table_of : List ℕ → ℕ → ℕ
@@ -60,7 +70,7 @@ abbrev pub inbox_of : Inbox → Pending
 inbox_of b = pending_of b.low b.pending
 
 -- an ACK by its parts
-abbrev pub ack_of : ℕ → ℕ → Names → Ack
+abbrev pub ack_of : ℕ → ℕ → Table CName 4 → Ack
 ack_of t i ns = record { stamp = t; issuer = i; names = names_of ns }
 
 -- one message is pending no more

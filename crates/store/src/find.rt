@@ -3,7 +3,7 @@ ghost use Rattle.std.specs.Prelude.{◌≡◌, ℕ, ◌+◌, ◌<◌, Bool, true
 ghost use Rattle.frames.specs.Types.{name_of};
 ghost use Rattle.head.specs.Slots.{named};
 ghost use Rattle.head.specs.Queue.{names_it, place_of};
-ghost use Rattle.store.specs.Parts.{slot_of, queue_of, stamp_at};
+ghost use Rattle.store.specs.Parts.{slot_of, stamp_at, slots_of};
 
 use crate::same::is_message;
 use crate::types::{Queue, Slot};
@@ -13,24 +13,16 @@ impl Slot {
     pub fn is_named(&self, name: Name) -> bool
         ensures { result ≡ names_it (name_of name) (named (slot_of self.now)) }
     {
-        match *self {
-            Slot::Data { name: x, .. } => is_message(name, x),
-            _ => false,
-        }
+        matches!(*self, Slot::Data { name: x, .. } if is_message(name, x))
     }
 }
 
 impl Queue {
     // The place of the first slot that names the message.
     pub fn find(&self, name: Name) -> Option<usize>
-        ensures place { stamp_at self.now.base result ≡ place_of (queue_of self.now.base self.now.slots) (name_of name) 96 self.now.base }
-        ensures bound { MatchOption result (⊥ → ⊥) (λ i. (i < 96) × (names_it (name_of name) (named (queue_of self.now.base self.now.slots (self.now.base + i))) ≡ true)) }
+        ensures place { stamp_at self.now.base result ≡ place_of (slots_of self.now) (name_of name) 96 self.now.base }
+        ensures bound { MatchOption result (⊥ → ⊥) (λ i. (i < 96) × (names_it (name_of name) (named (slots_of self.now (self.now.base + i))) ≡ true)) }
     {
-        for (i, s) in self.slots.iter().enumerate() {
-            if s.is_named(name) {
-                return Some(i);
-            }
-        }
-        None
+        self.slots.iter().position(|slot| slot.is_named(name))
     }
 }

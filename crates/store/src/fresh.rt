@@ -1,7 +1,7 @@
 // A queue and an inbox at the start.
 ghost use Rattle.std.specs.Prelude.{◌≡◌, None};
 ghost use Rattle.head.specs.Slots.{unknown};
-ghost use Rattle.store.specs.Parts.{queue_of, table_of, inbox_of};
+ghost use Rattle.store.specs.Parts.{table_of, inbox_of, slots_of};
 
 use crate::types::{Inbox, Queue, Slot, Window};
 
@@ -9,7 +9,7 @@ impl Queue {
     // Nothing is known, from stamp 1 on.
     pub fn new() -> Queue
         ensures base { result.base ≡ 1 }
-        ensures slots { queue_of result.base result.slots ≡ (λ _. unknown) }
+        ensures slots { slots_of result ≡ (λ _. unknown) }
         ensures gone { table_of result.gone ≡ (λ _. 0) }
     {
         Queue {

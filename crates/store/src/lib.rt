@@ -14,4 +14,5 @@ pub mod put;
 pub mod queue;
 pub mod same;
 pub mod settle;
+mod shift;
 pub mod types;

@@ -1,37 +1,15 @@
 // What a head reads off its queue: the top ACK, whether there was traffic, the frame of a slot; and whom and when it asks.
-ghost use Rattle.std.specs.Prelude.{◌≡◌, ◌<◌, ◌≤◌};
-ghost use Rattle.frames.specs.Types.{asked_of, frame_of};
-ghost use Rattle.frames.specs.Values.{ack_frame};
+ghost use Rattle.std.specs.Prelude.{◌≡◌, ℕ, ◌+◌, ◌<◌, ◌≤◌, min, MatchOption};
+ghost use Rattle.frames.specs.Types.{asked_of};
 ghost use Rattle.head.specs.Head.{Head, top as m_top};
 ghost use Rattle.head.specs.Hear.{frames_of};
-ghost use Rattle.head.specs.Queue.{last_ack};
+ghost use Rattle.head.specs.Queue.{ack_at, last_ack as m_last_ack};
 ghost use Rattle.head.specs.Tick.{another as m_another, asked as m_asked, busy, issuer_or, wait as m_wait};
 ghost use Rattle.store.specs.Look.{put_of, top_of};
-ghost use Rattle.store.specs.Parts.{ack_of, queue_of, slot_of};
+ghost use Rattle.store.specs.Parts.{names_at, slot_of, slots_of};
 
-use crate::types::{Queue, Slot};
-use frames::types::{Frame, Names, RingSize, To};
-
-// An ACK as it stands in the queue.
-#[derive(Clone, Copy)]
-pub struct Top {
-    pub stamp: u32,
-    pub issuer: u8,
-    pub names: Names,
-}
-
-impl Top {
-    // It is sent as a frame.
-    pub fn frame(self) -> Frame
-        ensures { frame_of result ≡ ack_frame (ack_of self.stamp self.issuer self.names) }
-    {
-        Frame::Ack {
-            stamp: self.stamp,
-            issuer: self.issuer,
-            names: self.names,
-        }
-    }
-}
+use crate::types::{InRing, Queue, Slot};
+use frames::types::{Ack, Frame, Message, Names, To};
 
 impl Slot {
     // The frame of a full slot.
@@ -40,60 +18,72 @@ impl Slot {
     {
         match self {
             Slot::Unknown => None,
-            Slot::Ack { issuer, names } => Some(Frame::Ack {
+            Slot::Ack { .. } => self.ack(stamp).map(Frame::Ack),
+            Slot::Data { name, body } => body.map(|body| Frame::Data(Message { name, body })),
+        }
+    }
+
+    // The ACK that stands here, under the stamp of the slot.
+    fn ack(self, stamp: u32) -> Option<Ack>
+        ensures { top_of result ≡ ack_at (slot_of self) stamp }
+    {
+        match self {
+            Slot::Ack { issuer, names } => Some(Ack {
                 stamp,
                 issuer,
                 names,
             }),
-            Slot::Data { name, body } => match body {
-                None => None,
-                Some(body) => Some(Frame::Data { name, body }),
-            },
+            _ => None,
+        }
+    }
+
+    // The names of an ACK.
+    fn names(&self) -> Option<Names>
+        ensures { result ≡ names_at self.now }
+    {
+        match *self {
+            Slot::Ack { names, .. } => Some(names),
+            _ => None,
         }
     }
 }
 
 impl Queue {
-    // The known ACK with the highest stamp, if there is one.
-    pub fn top(&self) -> Option<Top>
-        ensures { top_of result ≡ last_ack (queue_of self.now.base self.now.slots) 96 self.now.base }
+    // The last ACK among the first places. Past the queue there is none, so the k stamps may be more than the places.
+    pub(crate) fn last_ack(&self, count: usize) -> Option<Ack>
+        requires { count ≤ 96 }
+        ensures value { (k : ℕ) → count ≡ min k 96 → top_of result ≡ m_last_ack (slots_of self.now) k self.now.base }
+        ensures bound { MatchOption result (⊥ → ⊥) (λ a. (self.now.base ≤ a.stamp) × (a.stamp < self.now.base + count)) }
     {
-        for i in (0..96u32).rev() {
-            let slot = self.slots[i as usize];
-            if let Slot::Ack { issuer, names } = slot {
-                return Some(Top {
-                    stamp: self.base + i,
-                    issuer,
-                    names,
-                });
-            }
+        let slots = &self.slots[..count];
+        match slots.iter().rposition(|slot| slot.is_ack()) {
+            Some(place) => slots[place].ack(self.base + place as u32),
+            None => None,
         }
-        None
+    }
+
+    // The known ACK with the highest stamp, if there is one.
+    pub fn top(&self) -> Option<Ack>
+        ensures { top_of result ≡ m_last_ack (slots_of self.now) 96 self.now.base }
+    {
+        self.last_ack(96)
     }
 
     // Whether one of the last n known ACKs has a name.
     pub fn is_busy(&self, n: u8) -> bool
-        ensures { result ≡ busy (queue_of self.now.base self.now.slots) 96 self.now.base n }
+        ensures { result ≡ busy (slots_of self.now) 96 self.now.base n }
     {
-        let mut left = n;
-        for i in (0..96usize).rev() {
-            if left == 0 {
-                return false;
-            }
-            let slot = self.slots[i];
-            if let Slot::Ack { names, .. } = slot {
-                if names.count > 0 {
-                    return true;
-                }
-                left -= 1;
-            }
-        }
-        false
+        self.slots
+            .iter()
+            .rev()
+            .filter_map(|slot| slot.names())
+            .take(n as usize)
+            .any(|names| names.count > 0)
     }
 
     // The frame of the slot at a stamp, where it is full.
     pub fn frame_at(&self, stamp: u32) -> Option<Frame>
-        ensures { put_of result ≡ frames_of (queue_of self.now.base self.now.slots stamp) stamp }
+        ensures { put_of result ≡ frames_of (slots_of self.now stamp) stamp }
     {
         self.at(stamp as u64).frame(stamp)
     }
@@ -114,35 +104,34 @@ pub fn wait(tries: u8) -> u8
 }
 
 // The issuer of the top ACK; head 0 while none is known.
-fn issuer_of(top: Option<Top>) -> u8
+fn issuer_of(top: Option<Ack>) -> u8
     ensures { result ≡ issuer_or 0 (top_of top) }
 {
-    match top {
-        None => 0,
-        Some(ack) => ack.issuer,
-    }
+    top.map_or(0, |ack| ack.issuer)
 }
 
-// The head itself, or the one after it if it is this head.
-fn another(head: u8, me: u8, size: RingSize) -> u8
-    requires { head < size.heads }
-    ensures { result ≡ m_another size.heads me head }
-{
-    if head == me {
-        (head + 1) % size.heads
-    } else {
-        head
+impl InRing {
+    // The head itself, or the one after it if it is this head.
+    fn another(self, head: u8) -> u8
+        requires { head < self.size.heads }
+        ensures { result ≡ m_another self.size.heads self.me head }
+    {
+        if head == self.me {
+            (head + 1) % self.size.heads
+        } else {
+            head
+        }
     }
 }
 
 // Whom a NACK asks: the top ACK's issuer first, with each try the head after it, never this head; in the end everyone.
-pub fn asked(top: Option<Top>, tries: u8, me: u8, size: RingSize) -> To
-    ensures { (h : Head) → h.me ≡ me → h.tries ≡ tries → m_top h ≡ top_of top → asked_of result ≡ m_asked size.heads h }
+pub fn asked(top: Option<Ack>, tries: u8, ring: InRing) -> To
+    ensures { (h : Head) → h.me ≡ ring.me → h.tries ≡ tries → m_top h ≡ top_of top → asked_of result ≡ m_asked ring.size.heads h }
 {
-    if tries >= size.heads {
+    if tries >= ring.size.heads {
         return To::Everyone;
     }
     let issuer = issuer_of(top);
-    let head = (issuer as u16 + tries as u16) % size.heads as u16;
-    To::Head(another(head as u8, me, size))
+    let head = (issuer as u16 + tries as u16) % ring.size.heads as u16;
+    To::Head(ring.another(head as u8))
 }

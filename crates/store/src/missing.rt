@@ -20,8 +20,8 @@ impl Queue {
         ensures after { list.new ≡ lacking self.now ++ drop result list.old }
     {
         let mut count = 0;
-        for i in 0..self.places_known() {
-            if !self.slots[i].is_full() {
+        for (i, slot) in self.slots[..self.places_known()].iter().enumerate() {
+            if !slot.is_full() {
                 list[count] = self.base + i as u32;
                 count += 1;
             }

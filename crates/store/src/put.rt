@@ -1,61 +1,42 @@
 // The frames that one call puts.
-ghost use Rattle.std.specs.Prelude.{◌≡◌, ◌+◌, ◌≤◌, [], ◌∷◌, ◌++◌, length, if◌then◌else◌, nat_lt};
-ghost use Rattle.frames.specs.Types.{frame_of};
+ghost use Rattle.std.specs.Prelude.{◌≡◌, ◌+◌, ◌≤◌, [], ◌++◌, length};
 ghost use Rattle.store.specs.Look.{put_of};
 ghost use Rattle.store.specs.Puts.{puts_of};
 
 use crate::types::Frames;
-use frames::types::{Frame, To};
+use frames::table::Table;
+use frames::types::{Frame, Nack, To};
 
 // Fills a place of Frames that is not used.
-const UNUSED: Frame = Frame::Nack {
+const UNUSED: Frame = Frame::Nack(Nack {
     from: 0,
     to: To::Everyone,
     stamp: 1,
-};
+});
 
-impl Frames {
-    pub fn none() -> Frames
-        ensures { puts_of result ≡ [] }
-    {
-        Frames {
-            all: [UNUSED; 3],
-            count: 0,
-        }
-    }
+pub fn no_frames() -> Frames
+    ensures { puts_of result ≡ [] }
+{
+    Table::empty(UNUSED)
+}
 
-    // One frame more; false, and nothing changes, where there are three.
-    pub fn push(&mut self, frame: Frame) -> bool
-        ensures answer { result ≡ nat_lt (length (puts_of self.old)) 3 }
-        ensures after { puts_of self.new ≡ (if result then puts_of self.old ++ frame_of frame ∷ [] else puts_of self.old) }
-    {
-        if self.count >= 3 {
-            return false;
-        }
-        self.all[self.count as usize] = frame;
-        self.count += 1;
-        true
+// One frame more, if there is one.
+fn add(frames: &mut Frames, frame: Option<Frame>)
+    requires { length (puts_of frames.old) + length (put_of frame) ≤ 3 }
+    ensures { puts_of frames.new ≡ puts_of frames.old ++ put_of frame }
+{
+    if let Some(frame) = frame {
+        frames.push(frame);
     }
+}
 
-    // One frame more, if there is one.
-    fn add(&mut self, frame: Option<Frame>)
-        requires { length (puts_of self.old) + length (put_of frame) ≤ 3 }
-        ensures { puts_of self.new ≡ puts_of self.old ++ put_of frame }
-    {
-        if let Some(frame) = frame {
-            self.all[self.count as usize] = frame;
-            self.count += 1;
-        }
-    }
-
-    // Those of three frames that are there, in this order.
-    pub fn of(first: Option<Frame>, second: Option<Frame>, third: Option<Frame>) -> Frames
-        ensures { puts_of result ≡ put_of first ++ (put_of second ++ put_of third) }
-    {
-        let mut frames = Frames::none();
-        frames.add(first);
-        frames.add(second);
-        frames.add(third);
-        frames
-    }
+// Those of three frames that are there, in this order.
+pub fn frames_there(first: Option<Frame>, second: Option<Frame>, third: Option<Frame>) -> Frames
+    ensures { puts_of result ≡ put_of first ++ (put_of second ++ put_of third) }
+{
+    let mut frames = no_frames();
+    add(&mut frames, first);
+    add(&mut frames, second);
+    add(&mut frames, third);
+    frames
 }

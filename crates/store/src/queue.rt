@@ -2,7 +2,7 @@
 ghost use Rattle.std.specs.Prelude.{◌≡◌, ℕ, ◌+◌, ◌-◌, ◌<◌, ◌≤◌, Bool, true, false};
 ghost use Rattle.head.specs.Slots.{known, full, is_ack as m_is_ack};
 ghost use Rattle.head.specs.Queue.{first_not, past_last, all_unknown};
-ghost use Rattle.store.specs.Parts.{slot_of, queue_of};
+ghost use Rattle.store.specs.Parts.{slot_of, slots_of};
 
 use crate::types::{Queue, Slot};
 
@@ -10,10 +10,7 @@ impl Slot {
     pub fn is_known(&self) -> bool
         ensures { result ≡ known (slot_of self.now) }
     {
-        match self {
-            Slot::Unknown => false,
-            _ => true,
-        }
+        !matches!(self, Slot::Unknown)
     }
 
     pub fn is_full(&self) -> bool
@@ -29,17 +26,14 @@ impl Slot {
     pub fn is_ack(&self) -> bool
         ensures { result ≡ m_is_ack (slot_of self.now) }
     {
-        match self {
-            Slot::Ack { .. } => true,
-            _ => false,
-        }
+        matches!(self, Slot::Ack { .. })
     }
 }
 
 impl Queue {
     // What stands at a stamp: unknown outside the queue.
     pub fn at(&self, stamp: u64) -> Slot
-        ensures { slot_of result ≡ queue_of self.now.base self.now.slots stamp }
+        ensures { slot_of result ≡ slots_of self.now stamp }
     {
         let base = self.base as u64;
         if stamp < base || stamp - base > 95 {
@@ -50,38 +44,27 @@ impl Queue {
 
     // The lowest stamp that is not full.
     pub fn mark(&self) -> u32
-        ensures { result ≡ first_not full (queue_of self.now.base self.now.slots) 96 self.now.base }
+        ensures { result ≡ first_not full (slots_of self.now) 96 self.now.base }
     {
-        for (i, s) in self.slots.iter().enumerate() {
-            if !s.is_full() {
-                return self.base + i as u32;
-            }
-        }
-        self.base + 96
+        let places = self.slots.iter().take_while(|slot| slot.is_full()).count();
+        self.base + places as u32
     }
 
     // One past the highest stamp that is known.
     pub fn end(&self) -> u32
-        ensures { result ≡ past_last known (queue_of self.now.base self.now.slots) 96 self.now.base }
+        ensures { result ≡ past_last known (slots_of self.now) 96 self.now.base }
     {
-        for i in (0..96u32).rev() {
-            if self.slots[i as usize].is_known() {
-                return self.base + i + 1;
-            }
+        match self.slots.iter().rposition(|slot| slot.is_known()) {
+            Some(i) => self.base + i as u32 + 1,
+            None => self.base,
         }
-        self.base
     }
 
     // The k stamps from this one on are unknown.
-    pub fn is_free(&self, stamp: u32, k: u8) -> bool
-        ensures { result ≡ all_unknown (queue_of self.now.base self.now.slots) k stamp }
+    pub fn is_free(&self, stamp: u32, k: usize) -> bool
+        ensures { result ≡ all_unknown (slots_of self.now) k stamp }
     {
-        for i in 0..k {
-            let slot = self.at(stamp as u64 + i as u64);
-            if slot.is_known() {
-                return false;
-            }
-        }
-        true
+        let from = stamp as u64;
+        (from..from.saturating_add(k as u64)).all(|stamp| !self.at(stamp).is_known())
     }
 }

@@ -6,59 +6,30 @@ ghost use Rattle.head.specs.Queue.{acks as m_acks, highest, raise as m_raise};
 ghost use Rattle.head.specs.Head.{Head};
 ghost use Rattle.head.specs.Upkeep.{ready, give_up as m_give_up};
 ghost use Rattle.store.specs.declared.types.Slot.TheVariants.{Unknown};
-ghost use Rattle.store.specs.Parts.{slot_of, queue_of, table_of, low_of, part, Passed, Ends, Own};
+ghost use Rattle.store.specs.Parts.{slot_of, queue_of, table_of, low_of, part, Passed, Ends, Own, slots_of};
 
+use crate::shift::shifted;
 use crate::types::{Queue, Slot};
 use frames::types::Name;
 
-fn raise(low: &mut [u32], name: Name)
-    requires { length low.old ≡ 8 }
+fn raise(low: &mut [u32; 8], name: Name)
     ensures { (s : ℕ) → table_of low.new s ≡ m_raise s (Some (name_of name)) (table_of low.old s) }
 {
-    let s = name.source as usize;
-    if low[s] < name.number {
-        low[s] = name.number;
-    }
-}
-
-impl Slot {
-    // Raises the number of the source that the slot names, and says whether the slot is known.
-    fn lift(&self, low: &mut [u32]) -> bool
-        requires { length low.old ≡ 8 }
-        ensures known { result ≡ known (slot_of self.now) }
-        ensures low { (s : ℕ) → table_of low.new s ≡ m_raise s (named (slot_of self.now)) (table_of low.old s) }
-    {
-        match *self {
-            Slot::Unknown => false,
-            Slot::Ack { .. } => true,
-            Slot::Data { name, .. } => {
-                raise(low, name);
-                true
-            }
-        }
-    }
+    let source = name.source as usize;
+    low[source] = low[source].max(name.number);
 }
 
 // Raises the numbers over the known front of these slots.
-fn climb(low: &mut [u32], slots: &[Slot])
-    requires { length low.old ≡ 8 }
+fn climb(low: &mut [u32; 8], slots: &[Slot])
     ensures { (b s : ℕ) → table_of low.new s ≡ highest (queue_of b slots.now) s (length slots.now) b (table_of low.old s) }
 {
     for slot in slots {
-        if !slot.lift(low) {
-            return;
+        match *slot {
+            Slot::Unknown => return,
+            Slot::Ack { .. } => {}
+            Slot::Data { name, .. } => raise(low, name),
         }
     }
-}
-
-// The slots from place k on.
-fn shifted(slots: &[Slot], k: usize) -> [Slot; 96]
-    requires { (length slots.now ≡ 96) × (k ≤ 96) }
-    ensures { result ≡ drop k slots.now ++ replicate k Unknown }
-{
-    let mut all = [Slot::Unknown; 96];
-    all[0..96 - k].copy_from_slice(&slots[k..96]);
-    all
 }
 
 impl Queue {
@@ -72,50 +43,38 @@ impl Queue {
     }
 
     pub fn acks(&self) -> usize
-        ensures { result ≡ m_acks (queue_of self.now.base self.now.slots) 96 self.now.base }
+        ensures { result ≡ m_acks (slots_of self.now) 96 self.now.base }
     {
-        let mut n = 0;
-        for s in &self.slots {
-            if s.is_ack() {
-                n += 1;
-            }
-        }
-        n
+        self.slots.iter().filter(|slot| slot.is_ack()).count()
     }
 
     // The number of data slots of the ACK at base, where it can be given up.
-    fn spent(&self, n: u8, due: u32) -> Option<u8>
-        ensures value { (h : Head) → result ≡ ready n (part h due self.now) (queue_of self.now.base self.now.slots self.now.base) }
+    fn spent(&self, n: u8, due: u32) -> Option<usize>
+        ensures value { (h : Head) → result ≡ ready n (part h due self.now) (slots_of self.now self.now.base) }
         ensures bound { MatchOption result (⊥ → ⊥) (λ m. (m ≤ 4) × (self.now.base + m < due)) }
     {
         if self.acks() <= n as usize {
             return None;
         }
         let slot = self.slots[0];
-        match slot {
-            Slot::Ack { names, .. } => {
-                if self.base + (names.count as u32) < due {
-                    Some(names.count)
-                } else {
-                    None
-                }
-            }
-            _ => None,
-        }
+        let Slot::Ack { names, .. } = slot else {
+            return None;
+        };
+        (self.base + (names.count as u32) < due).then_some(names.count)
     }
 
     // The ACK at base and its m data slots are given up.
-    fn forward(&mut self, m: u8)
+    fn forward(&mut self, m: usize)
         requires few { m ≤ 4 }
         requires near { self.old.base + m < 1000001 }
         ensures base { self.new.base ≡ suc (self.old.base + m) }
-        ensures slots { queue_of self.new.base self.new.slots ≡ (λ s. (if leb s (self.old.base + m) then unknown else queue_of self.old.base self.old.slots s)) }
-        ensures gone { table_of self.new.gone ≡ (λ s. highest (queue_of self.old.base self.old.slots) s (suc m) self.old.base (table_of self.old.gone s)) }
+        ensures slots { slots_of self.new ≡ (λ s. (if leb s (self.old.base + m) then unknown else slots_of self.old s)) }
+        ensures gone { table_of self.new.gone ≡ (λ s. highest (slots_of self.old) s (suc m) self.old.base (table_of self.old.gone s)) }
     {
-        let k = m as usize + 1;
+        let k = m + 1;
         let mut gone = self.gone;
-        climb(&mut gone, &self.slots[0..k]);
-        let slots = shifted(&self.slots, k);
+        climb(&mut gone, &self.slots[..k]);
+        let slots = shifted(&self.slots, k, Slot::Unknown);
         self.gone = gone;
         self.slots = slots;
         self.base += k as u32;

@@ -1,7 +1,8 @@
 // What a head keeps.
 ghost use Rattle.std.specs.Prelude.{◌≡◌, ◌<◌, ◌≤◌, length};
 
-use frames::types::{Body, Frame, Level, Name, Names};
+use frames::table::Table;
+use frames::types::{Body, Frame, Level, Name, Names, RingSize};
 
 #[derive(Clone, Copy)]
 pub enum Slot {
@@ -44,11 +45,12 @@ pub struct Inbox {
     ghost windows: { length pending ≡ 8 },
 }
 
-// The frames that one call puts, in order: the first count of three places.
+// A ring as one head sees it: how many heads there are, and which of them it is.
 #[derive(Clone, Copy)]
-pub struct Frames {
-    pub all: [Frame; 3],
-    pub count: u8,
-    ghost places: { length all ≡ 3 },
-    ghost few: { count ≤ 3 },
+pub struct InRing {
+    pub size: RingSize,
+    pub me: u8,
 }
+
+// The frames that one call puts, in order: at most three.
+pub type Frames = Table<Frame, 3>;

@@ -1,7 +1,12 @@
+use Rattle.std.proofs.Common.{rules}
 use Rattle.frames.proofs.Accepted.{forth}
 use Rattle.frames.proofs.read.read.Goals as goal
 
-pub returns-in_default : goal.returns-in_default
-returns-in_default c =
-    let k = c.read_kind.ensures in
-    record { answer = k.answer; rest = k.rest; forth = forth c.args.size.heads c.args.bytes.now c.read_kind.result c.type_inv.bytes k.answer }
+pub returns-in-1-clause-forth : goal.returns-in-1-clause-forth
+returns-in-1-clause-forth c = forth c.args.size.heads c.args.bytes.now c.read_data.result c.type_inv.bytes (search rules)
+
+pub returns-in-2-clause-forth : goal.returns-in-2-clause-forth
+returns-in-2-clause-forth c = forth c.args.size.heads c.args.bytes.now c.read_ack.result c.type_inv.bytes (search rules)
+
+pub returns-in-3-clause-forth : goal.returns-in-3-clause-forth
+returns-in-3-clause-forth c = forth c.args.size.heads c.args.bytes.now c.read_nack.result c.type_inv.bytes (search rules)

@@ -3,7 +3,7 @@ use Rattle.std.proofs.lemmas.List.{take_at}
 use Rattle.frames.specs.Types.{frame_of}
 use Rattle.frames.specs.Written.{written}
 use Rattle.frames.specs.Reading.{read}
-use Rattle.frames.proofs.Fronts.{blank_past}
+use Rattle.frames.proofs.Tables.{filler_past}
 use Rattle.frames.proofs.Laws.{reads_back}
 use Rattle.frames.proofs.write.packed.Goals as goal
 
@@ -11,12 +11,12 @@ pub returns : goal.returns
 returns c =
     let n = c.args.size.heads in
     let f = frame_of c.args.frame in
-    let k = c.len-len.result in
+    let k = c.len-count.result in
     let m = c.args.size.most in
-    let w : take k c.write_front.new.out ≡ written n f = ap (take k) c.write_front.ensures ∙ take_at (written n f) _ k (sym (c.len-len.ensures.value n)) in
-    let l = c.len-len.ensures.value n in
+    let l = c.len-count.ensures.value n in
+    let w : take k c.write_front.new.out ≡ written n f = ap (take k) c.write_front.ensures ∙ take_at (written n f) _ k (sym l) in
     record {
       bytes = w;
-      rest = rw l (ap (drop (length (written n f))) c.write_front.ensures ∙ blank_past 32 (length (written n f)) (written n f) refl);
+      rest = rw l (ap (drop (length (written n f))) c.write_front.ensures ∙ filler_past 0 32 (length (written n f)) (written n f) refl);
       back = ap (read n) w ∙ reads_back n f (omega arith) c.requires;
     }

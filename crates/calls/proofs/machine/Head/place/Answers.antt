@@ -11,9 +11,9 @@ invariant_of-self c =
     let q = c.lay.new.self in
     let l = c.lows-low.result in
     let e = c.lay.ensures in
-    let t = c.args.stamp in
-    let i = c.args.issuer in
-    let ns = c.args.names in
+    let t = c.args.ack.stamp in
+    let i = c.args.ack.issuer in
+    let ns = c.args.ack.names in
     let es = e.slots ∙ cond-true c.lay.result _ _ (e.answer ∙ c.requires.room) in
     let el = c.lows-low.ensures in record {
       member = x.member;
@@ -33,5 +33,5 @@ returns c =
     let es = e.slots ∙ cond-true c.lay.result _ _ (e.answer ∙ c.requires.room) in
     record {
       size = refl;
-      after = code_placed x q l c.args.stamp c.args.issuer c.args.names e.base e.gone es c.lows-low.ensures (inbox_of c.raise_all.new.self) (c.raise_all.ensures.pending ∙ ap {B = Pending} (λ (p : Pending) s k. cond (leb k (table_of l s)) None (p s k)) c.clear_all.ensures.pending);
+      after = code_placed x q l c.args.ack.stamp c.args.ack.issuer c.args.ack.names e.base e.gone es c.lows-low.ensures (inbox_of c.raise_all.new.self) (c.raise_all.ensures.pending ∙ ap {B = Pending} (λ (p : Pending) s k. cond (leb k (table_of l s)) None (p s k)) c.clear_all.ensures.pending);
     }

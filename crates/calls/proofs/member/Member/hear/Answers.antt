@@ -4,4 +4,4 @@ use Rattle.calls.proofs.Members.{after_hear}
 use Rattle.calls.proofs.member.Member.hear.Goals as goal
 
 pub invariant_of-self : goal.invariant_of-self
-invariant_of-self c = after_hear c.args.self.now hearing c.hear_done.result c.hear_done.new.self c.hear_done.ensures.size (Some c.args.bytes.now) c.hear_done.ensures.after
+invariant_of-self c = after_hear c.args.self.now c.hear.new.self c.hear.ensures.size hearing c.hear.result (Some c.args.bytes.now) c.hear.ensures.after

@@ -1,9 +1,8 @@
-use Rattle.std.proofs.Common.{◌≡◌}
-use Rattle.frames.specs.Types.{names_of}
-use Rattle.frames.proofs.Naming.{from}
+use Rattle.std.proofs.Common.{◌≡◌, drop, map}
+use Rattle.frames.specs.Types.{name_of, names_of}
 use Rattle.store.specs.Parts.{inbox_of}
 use Rattle.store.proofs.Windows.{clears}
 use Rattle.store.proofs.types.Inbox.clear_all.Given as goal
 
-abbrev pub invariant-loop-i : goal.invariant-loop-i
-invariant-loop-i l = (l.self.low ≡ l.initial.self.low) × (clears (from l.names l.i) (inbox_of l.self) ≡ clears (names_of l.names) (inbox_of l.initial.self))
+abbrev pub invariant-loop-name : goal.invariant-loop-name
+invariant-loop-name l = record { low : l.self.low ≡ l.initial.self.low; cleared : clears (map name_of (drop l.name-index l.name-items)) (inbox_of l.self) ≡ clears (names_of l.fn.names) (inbox_of l.initial.self) }

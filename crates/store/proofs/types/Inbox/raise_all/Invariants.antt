@@ -3,8 +3,8 @@ use Rattle.store.specs.Parts.{inbox_of, table_of}
 use Rattle.store.proofs.Windows.{raised}
 use Rattle.store.proofs.types.Inbox.raise_all.Given as goal
 
-abbrev pub invariant-loop-s : goal.invariant-loop-s
-invariant-loop-s l =
-    ((t : ℕ) → l.s ≤ t → table_of l.self.low t ≡ table_of l.initial.self.low t)
-    × ((t : ℕ) → t < l.s → table_of l.self.low t ≡ max (table_of l.initial.self.low t) (table_of l.low t))
-    × (inbox_of l.self ≡ raised l.low (inbox_of l.initial.self) l.s)
+abbrev pub invariant-loop-source : goal.invariant-loop-source
+invariant-loop-source l =
+    ((t : ℕ) → l.source ≤ t → table_of l.self.low t ≡ table_of l.initial.self.low t)
+    × ((t : ℕ) → t < l.source → table_of l.self.low t ≡ max (table_of l.initial.self.low t) (table_of l.to-items t))
+    × (inbox_of l.self ≡ raised l.to-items (inbox_of l.initial.self) l.source)

@@ -1,31 +1,21 @@
-use Rattle.std.proofs.Common.{◌≡◌, suc, ◌+◌, ◌-◌, sym, ap, ◌∙◌, arith}
+use Rattle.std.proofs.Common.{◌≡◌, ℕ, suc, ◌+◌, ◌<◌, true, false, get_or, ap, ◌∙◌, arith, rules, sym}
+use Rattle.std.proofs.iter.runs.Made.{chains}
 use Rattle.head.specs.Slots.{known}
-use Rattle.head.specs.Queue.{Queue, past_last}
-use Rattle.store.specs.Parts.{queue_of}
-use Rattle.store.proofs.View.{queue_read}
-use Rattle.store.proofs.Walks.{past_hit, past_miss, past_none}
+use Rattle.store.specs.Parts.{queue_of, slot_of}
+use Rattle.store.specs.declared.types.Slot.TheVariants.{Unknown}
+use Rattle.store.proofs.View.{queue_at}
+use Rattle.store.proofs.Listed.{past_last_at, past_last_none}
 use Rattle.store.proofs.types.Queue.end.Goals as goal
 
-pub returns-then-is_known : goal.returns-then-is_known
-returns-then-is_known c =
+pub returns-in-Some : goal.returns-in-Some
+returns-in-Some c =
     let s = c.args.self.now in
-    let q : Queue = queue_of s.base s.slots in
-    let j = c.loop-i.i - 1 in
-    let f : suc j ≡ c.loop-i.i = omega arith in
-    let e : s.base + j + 1 ≡ suc (s.base + j) = omega arith in
-    e ∙ (sym (past_hit known q j s.base (ap known (queue_read s.base s.slots j _ (omega arith)) ∙ sym c.if-is_known.ensures)) ∙ (ap (λ k. past_last known q k s.base) f ∙ c.loop-i.invariant))
+    let e : (c.in-Some.i < 96) × (known (slot_of (get_or s.slots c.in-Some.i Unknown)) ≡ true) × ((k : ℕ) → c.in-Some.i < k → k < 96 → known (slot_of (get_or s.slots k Unknown)) ≡ false) = search (rules, chains) in
+    let r : s.base + c.in-Some.i + 1 ≡ suc (s.base + c.in-Some.i) = omega arith in
+    r ∙ sym (past_last_at known (queue_of s.base s.slots) s.base 96 c.in-Some.i e.0 (ap known (queue_at s.base s.slots c.in-Some.i) ∙ e.1) (λ j a b. ap known (queue_at s.base s.slots j) ∙ e.2 j a b))
 
-pub loop-i-preserved : goal.loop-i-preserved
-loop-i-preserved c =
+pub returns-in-None : goal.returns-in-None
+returns-in-None c =
     let s = c.args.self.now in
-    let q : Queue = queue_of s.base s.slots in
-    let j = c.loop-i.i - 1 in
-    let f : suc j ≡ c.loop-i.i = omega arith in
-    sym (past_miss known q j s.base (ap known (queue_read s.base s.slots j _ (omega arith)) ∙ sym c.if-is_known.ensures)) ∙ (ap (λ k. past_last known q k s.base) f ∙ c.loop-i.invariant)
-
-pub returns : goal.returns
-returns c =
-    let s = c.args.self.now in
-    let q : Queue = queue_of s.base s.slots in
-    let f : ◌≡◌ 0 c.loop-i.i = omega arith in
-    sym (past_none known q s.base) ∙ (ap (λ k. past_last known q k s.base) f ∙ c.loop-i.invariant)
+    let e : (k : ℕ) → k < 96 → known (slot_of (get_or s.slots k Unknown)) ≡ false = search (rules, chains) in
+    sym (past_last_none known (queue_of s.base s.slots) s.base 96 (λ j b. ap known (queue_at s.base s.slots j) ∙ e j b))

@@ -1,4 +1,4 @@
-use Rattle.std.proofs.Common.{◌≡◌, ℕ, suc, ◌+◌, ◌-◌, ◌++◌, length, take, drop, replicate, ap, ◌∙◌, arith}
+use Rattle.std.proofs.Common.{◌≡◌, ℕ, suc, ◌+◌, ◌++◌, drop, replicate, ap, ◌∙◌, arith}
 use mathlib.Core.Path.{fun_ext}
 use Rattle.head.specs.Queue.{highest}
 use Rattle.store.specs.declared.types.Slot.TheVariants.{Unknown}
@@ -15,6 +15,5 @@ returns c =
     let b : x.base + (m + 1) ≡ suc (x.base + m) = omega arith in
     let k : m + 1 ≡ suc m = omega arith in
     let s = (λ j. queue_of (b j) ((c.shifted-slots.ensures ∙ ap (λ (n : ℕ). drop n x.slots ++ replicate n Unknown) k) j)) ∙ queue_shift x.base x.slots m (omega arith) in
-    let z : m + 1 - 0 ≡ m + 1 = omega arith in
-    let g = fun_ext (λ (t : ℕ). c.climb.ensures x.base t ∙ (ap (λ n. highest (queue_of x.base (take n x.slots)) t (length (take n x.slots)) x.base (table_of x.gone t)) z ∙ front_same x.base x.slots (m + 1) t (table_of x.gone t) (omega arith) ∙ ap (λ n. highest (queue_of x.base x.slots) t n x.base (table_of x.gone t)) k)) in
+    let g = fun_ext (λ (t : ℕ). c.climb.ensures x.base t ∙ (front_same x.base x.slots (m + 1) t (table_of x.gone t) (omega arith) ∙ ap (λ n. highest (queue_of x.base x.slots) t n x.base (table_of x.gone t)) k)) in
     record { base = b; slots = s; gone = g }

@@ -1,27 +1,19 @@
-use Rattle.std.proofs.Common.{◌+◌, sym, ap, ◌∙◌, arith}
+use Rattle.std.proofs.Common.{◌≡◌, ℕ, ◌+◌, ◌-◌, ◌≤◌, false, not, ap, ◌∙◌, arith, rules, tests}
+use Rattle.std.proofs.lemmas.Iterator.{YieldsList-from_range}
+use Rattle.std.proofs.lemmas.Iterator.Search.{all_from_yields_List}
 use Rattle.head.specs.Slots.{known}
-use Rattle.head.specs.Queue.{Queue, all_unknown}
-use Rattle.store.specs.Parts.{queue_of}
-use Rattle.store.proofs.Walks.{walk_more, walk_stop, walk_end, walk_start, free_more, free_stop, free_end}
+use Rattle.head.specs.Queue.{Queue}
+use Rattle.store.specs.Parts.{slots_of}
+use Rattle.store.proofs.View.{queue_past}
+use Rattle.store.proofs.Listed.{all_unknown_list, all_unknown_past}
 use Rattle.store.proofs.types.Queue.is_free.Goals as goal
-
-pub loop-i-init : goal.loop-i-init
-loop-i-init c = walk_start (all_unknown (queue_of c.args.self.now.base c.args.self.now.slots)) c.args.k c.args.stamp
-
-pub returns-then-is_known : goal.returns-then-is_known
-returns-then-is_known c =
-    let s = c.args.self.now in
-    let q : Queue = queue_of s.base s.slots in
-    walk_stop (all_unknown q) c.args.k c.args.stamp c.loop-i.i (omega arith) (λ n. free_stop q n _ (ap known (sym c.at-slot.ensures) ∙ sym c.if-is_known.ensures)) ∙ c.loop-i.invariant
-
-pub loop-i-preserved : goal.loop-i-preserved
-loop-i-preserved c =
-    let s = c.args.self.now in
-    let q : Queue = queue_of s.base s.slots in
-    walk_more (all_unknown q) c.args.k c.args.stamp c.loop-i.i (omega arith) (λ n. free_more q n _ (ap known (sym c.at-slot.ensures) ∙ sym c.if-is_known.ensures)) ∙ c.loop-i.invariant
 
 pub returns : goal.returns
 returns c =
-    let s = c.args.self.now in
-    let q : Queue = queue_of s.base s.slots in
-    sym (free_end q (c.args.stamp + c.loop-i.i)) ∙ (walk_end (all_unknown q) c.args.k c.args.stamp c.loop-i.i (omega arith) ∙ c.loop-i.invariant)
+    let x = c.args.self.now in
+    let q : Queue = slots_of x in
+    let t = c.args.stamp in
+    let e = c.saturating_add.result in
+    let past : (u : ℕ) → x.base + 96 ≤ u → known (q u) ≡ false = λ u h. let l = x.places in ap known (queue_past x.base x.slots u (omega arith)) in
+    all_from_yields_List (λ u. not (known (q u))) _ _ _ c.all.ensures.ran (YieldsList-from_range t e (e - t) (cc) (omega arith)) (λ y b g k. search (rules, tests))
+    ∙ (all_unknown_list q (e - t) t ∙ all_unknown_past q (e - t) c.args.k t (omega arith) (λ h u a. past u (omega (arith, x.small))))

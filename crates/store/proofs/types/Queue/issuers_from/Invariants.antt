@@ -4,5 +4,8 @@ use Rattle.head.specs.Queue.{issuers}
 use Rattle.store.specs.Parts.{queue_of}
 use Rattle.store.proofs.types.Queue.issuers_from.Given as goal
 
-abbrev pub invariant-loop-i : goal.invariant-loop-i
-invariant-loop-i l = (length l.issued ≡ 8) × ((g : ℕ) → g < 8 → (get_or l.issued g false || among g (issuers (queue_of l.self.base l.self.slots) (96 - l.i) (l.self.base + l.i))) ≡ among g (issuers (queue_of l.self.base l.self.slots) (l.self.base + 96 - l.stamp) l.stamp))
+-- the issuers so far are in the table, and those to come follow the slots that are left
+abbrev pub invariant-loop-slot : goal.invariant-loop-slot
+invariant-loop-slot l =
+    (length l.issued ≡ 8)
+    × ((g : ℕ) → g < 8 → (get_or l.issued g false || among g (issuers (queue_of l.self.base l.self.slots) (l.self.base + 96 - (l.stamp + l.slot-index)) (l.stamp + l.slot-index))) ≡ among g (issuers (queue_of l.self.base l.self.slots) (l.self.base + 96 - l.stamp) l.stamp))

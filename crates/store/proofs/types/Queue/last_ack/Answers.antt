@@ -1,35 +1,34 @@
-use Rattle.std.proofs.Common.{◌≡◌, ◌-◌, sym, ap, ◌∙◌, arith}
-use Rattle.head.specs.Deliver.{stamp_of}
+use Rattle.std.proofs.Common.{◌≡◌, ℕ, ◌+◌, ◌<◌, true, false, get_or, length, take, sym, ap, ◌∙◌, arith, rules}
+use Rattle.std.proofs.iter.runs.Made.{chains}
+use Rattle.std.proofs.lemmas.List.{length-take-le}
 use Rattle.head.specs.Slots.{is_ack}
-use Rattle.head.specs.Queue.{Queue, last_ack}
-use Rattle.store.specs.Parts.{queue_of}
-use Rattle.store.proofs.View.{queue_read}
-use Rattle.store.proofs.Looking.{last_before, last_nowhere}
-use Rattle.store.proofs.Holding.{stamp_here, last_upto}
+use Rattle.head.specs.Queue.{Queue, ack_at}
+use Rattle.store.specs.declared.types.Slot.TheVariants.{Unknown}
+use Rattle.store.specs.Parts.{queue_of, slot_of}
+use Rattle.store.proofs.Holding.{last_upto}
+use Rattle.store.proofs.Listed.{last_ack_at, last_ack_none}
+use Rattle.store.proofs.View.{queue_front}
 use Rattle.store.proofs.types.Queue.last_ack.Goals as goal
 
-pub returns-then-is_ack : goal.returns-then-is_ack
-returns-then-is_ack c =
+pub returns-in-None-clause-value : goal.returns-in-None-clause-value
+returns-in-None-clause-value c = λ k e.
     let s = c.args.self.now in
-    let q : Queue = queue_of s.base s.slots in
-    let i = c.loop-i.i in
-    let l = s.places in
-    record {
-      value = λ k e. sym (stamp_here q i (i - 1) s.base (omega arith) (ap is_ack (queue_read s.base s.slots (i - 1) _ (omega arith)) ∙ sym c.if-is_ack.ensures)) ∙ ap stamp_of (c.loop-i.invariant ∙ last_upto s _ k e);
-      bound = (omega arith, omega arith);
-    }
+    let m = c.args.count in
+    let n : length (take m s.slots) ≡ m = length-take-le m s.slots (omega arith) in
+    let f : (j : ℕ) → j < m → is_ack (slot_of (get_or (take m s.slots) j Unknown)) ≡ false = search (rules, chains) in
+    sym (last_ack_none (queue_of s.base s.slots) s.base m (λ j b. ap is_ack (queue_front s.base s.slots m j Unknown b (omega arith)) ∙ f j b)) ∙ last_upto s m k e
 
-pub loop-i-preserved : goal.loop-i-preserved
-loop-i-preserved c =
+pub returns-in-Some-clause-value : goal.returns-in-Some-clause-value
+returns-in-Some-clause-value c = λ k e.
     let s = c.args.self.now in
     let q : Queue = queue_of s.base s.slots in
-    let i = c.loop-i.i in
-    let l = s.places in
-    last_before q i (i - 1) s.base (omega arith) (ap is_ack (queue_read s.base s.slots (i - 1) _ (omega arith)) ∙ sym c.if-is_ack.ensures) ∙ c.loop-i.invariant
-
-pub returns : goal.returns
-returns c =
-    let s = c.args.self.now in
-    let q : Queue = queue_of s.base s.slots in
-    let e : ◌≡◌ 0 c.loop-i.i = omega arith in
-    record { value = λ k f. ap stamp_of (sym (last_nowhere q s.base) ∙ (ap (λ n. last_ack q n s.base) e ∙ (c.loop-i.invariant ∙ last_upto s _ k f))); bound = λ y. y }
+    let i = c.in-Some.place in
+    let m = c.args.count in
+    let n : length (take m s.slots) ≡ m = length-take-le m s.slots (omega arith) in
+    let b : i < m = search (rules, chains) in
+    let f : is_ack (slot_of (get_or (take m s.slots) i Unknown)) ≡ true = search (rules, chains) in
+    let h : (j : ℕ) → i < j → j < m → is_ack (slot_of (get_or (take m s.slots) j Unknown)) ≡ false = search (rules, chains) in
+    let g : c.index-slots-place.result ≡ get_or (take m s.slots) i Unknown = search (rules, chains) in
+    c.ack.ensures
+    ∙ (ap (λ x. ack_at x (s.base + i)) (ap slot_of g ∙ sym (queue_front s.base s.slots m i Unknown b (omega arith)))
+    ∙ (sym (last_ack_at q s.base m i b (ap is_ack (queue_front s.base s.slots m i Unknown b (omega arith)) ∙ f) (λ j a d. ap is_ack (queue_front s.base s.slots m j Unknown d (omega arith)) ∙ h j a d)) ∙ last_upto s m k e))

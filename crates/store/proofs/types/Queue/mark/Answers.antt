@@ -1,29 +1,16 @@
-use Rattle.std.proofs.Common.{◌≡◌, ◌+◌, sym, ap, ◌∙◌, arith}
+use Rattle.std.proofs.Common.{◌≡◌, ◌+◌, ap, ◌∙◌, rules, tests, sym}
+use Rattle.std.specs.List.{prefix_len}
+use Rattle.std.proofs.lemmas.Iterator.{YieldsList-from_slice}
+use Rattle.std.proofs.lemmas.Iterator.Search.{YieldsList-from_take_while}
+use Rattle.std.proofs.lemmas.Iterator.Consumers.{count_from_yields_List}
+use Rattle.std.proofs.lemmas.List.Folds.{length-prefix_len}
 use Rattle.head.specs.Slots.{full}
-use Rattle.head.specs.Queue.{Queue, first_not}
-use Rattle.store.specs.Parts.{queue_of}
-use Rattle.store.proofs.View.{queue_read}
-use Rattle.store.proofs.Walks.{walk_more, walk_stop, walk_end, walk_start, first_more, first_stop, first_end}
+use Rattle.store.specs.Parts.{queue_of, slot_of}
+use Rattle.store.proofs.Listed.{first_not_list, lists_all}
 use Rattle.store.proofs.types.Queue.mark.Goals as goal
-
-pub loop-i-init : goal.loop-i-init
-loop-i-init c = walk_start (first_not full (queue_of c.args.self.now.base c.args.self.now.slots)) 96 c.args.self.now.base
-
-pub returns-then-not-is_full : goal.returns-then-not-is_full
-returns-then-not-is_full c =
-    let s = c.args.self.now in
-    let q : Queue = queue_of s.base s.slots in
-    walk_stop (first_not full q) 96 s.base c.loop-i.i (omega arith) (λ k. first_stop full q k _ (ap full (queue_read s.base s.slots c.loop-i.i _ (omega arith)) ∙ sym c.if-not-is_full.ensures)) ∙ c.loop-i.invariant
-
-pub loop-i-preserved : goal.loop-i-preserved
-loop-i-preserved c =
-    let s = c.args.self.now in
-    let q : Queue = queue_of s.base s.slots in
-    walk_more (first_not full q) 96 s.base c.loop-i.i (omega arith) (λ k. first_more full q k _ (ap full (queue_read s.base s.slots c.loop-i.i _ (omega arith)) ∙ sym c.if-not-is_full.ensures)) ∙ c.loop-i.invariant
 
 pub returns : goal.returns
 returns c =
     let s = c.args.self.now in
-    let q : Queue = queue_of s.base s.slots in
-    let e : s.base + 96 ≡ s.base + c.loop-i.i = omega arith in
-    e ∙ (sym (first_end full q (s.base + c.loop-i.i)) ∙ (walk_end (first_not full q) 96 s.base c.loop-i.i (omega arith) ∙ c.loop-i.invariant))
+    let e : c.count-places.result ≡ prefix_len (λ x. full (slot_of x)) s.slots = count_from_yields_List _ _ c.count-places.ensures.ran (YieldsList-from_take_while _ (λ x. full (slot_of x)) (YieldsList-from_slice s.slots cc) c.take_while.ensures.closure c.take_while.ensures.done (λ x b q k. search (rules, tests))) ∙ length-prefix_len (λ x. full (slot_of x)) s.slots in
+    ap (λ n. s.base + n) e ∙ sym (rw (s.places) at (first_not_list full (queue_of s.base s.slots) s.base s.slots (lists_all s.base s.slots)))

@@ -9,14 +9,14 @@ use Rattle.store.proofs.types.Queue.mark_holders.Goals.{in-None, in-Some}
 pub returns : goal.returns
 returns c =
     let x = c.args.self.now in
-    let n = c.args.size.heads in
+    let n = c.args.ring.size.heads in
     let f = c.match-orderer.from in
     record {
       answer = sym (le-leb 96 (length c.args.scratch.now) c.if-scratch-lt96.false);
       after = λ h k.
           let e : holder_marks n h (x.base + f) 96 x.base ≡ marks_from n h (orderer h c.args.stamp) = elim c.match-orderer.branch [
-            | in-None w ↦ marks_nowhere n c.args.me x f h k c.args.stamp w.from-is w.in-None.ensures.value
-            | in-Some w ↦ let b = w.in-Some.ensures.bound in let d = w.from-is in marks_since n c.args.me x f h k c.args.stamp w.in-Some.t (omega arith) w.in-Some.ensures.value
+            | in-None w ↦ marks_nowhere n c.args.ring.me x f h k c.args.stamp w.from-is w.in-None.ensures.value
+            | in-Some w ↦ let b = w.in-Some.ensures.bound in let d = w.from-is in marks_since n c.args.ring.me x f h k c.args.stamp w.in-Some.t (omega arith) w.in-Some.ensures.value
           ] in
           c.mark_from.ensures h k ∙ ap (λ (ys : List ℕ). ys ++ drop 96 c.args.scratch.now) e;
     }

@@ -1,35 +1,40 @@
-use Rattle.std.proofs.Common.{◌+◌, get_or, refl, ◌∙◌, arith}
-use Rattle.frames.specs.Types.{name_of}
+use Rattle.std.proofs.Common.{◌≡◌, ◌+◌, cond, eqb, List, length, map, refl, ap, sym, ◌∙◌, arith}
+use Rattle.frames.specs.declared.types.Name.{Name as CName}
+use Rattle.frames.specs.Types.{ack_meant, name_of}
+use Rattle.head.specs.Slots.{nth_slot}
 use Rattle.store.specs.declared.types.Slot.TheVariants.{Ack as CAck}
-use Rattle.store.specs.Parts.{queue_of, inbox_of, ack_of}
-use Rattle.frames.proofs.Naming.{length-names_of}
+use Rattle.store.specs.Parts.{slot_of, slots_of, inbox_of}
+use Rattle.frames.proofs.Naming.{length-items, length-names_of}
 use Rattle.store.proofs.View.{queue_set}
-use Rattle.store.proofs.Placing.{laid_none, laid_more, laid_all, names_at}
+use Rattle.store.proofs.Placing.{laid_none, laid_more, laid_all, name_slot}
 use Rattle.store.proofs.types.Queue.set_from.Goals as goal
 
 pub loop-i-init : goal.loop-i-init
-loop-i-init c = (refl, refl, laid_none (inbox_of c.args.inbox.now) (ack_of (c.args.self.now.base + c.args.at) c.args.issuer c.args.names) _)
+loop-i-init c = record { base = refl; gone = refl; slots = laid_none (inbox_of c.args.inbox.now) (ack_meant c.args.ack) _ }
 
 pub loop-i-preserved : goal.loop-i-preserved
 loop-i-preserved c =
     let s = c.args.self.now in
-    let ns = c.args.names in
+    let a = c.args.ack in
     let i = c.loop-i.i in
-    let l = c.loop-i.self.places in (
-      c.loop-i.invariant.0,
-      c.loop-i.invariant.1,
-      queue_set s.base c.loop-i.self.slots (c.args.at + 1 + i) c.slot_for.result (omega arith)
-          ∙ laid_more (inbox_of c.args.inbox.now) (ack_of (s.base + c.args.at) c.args.issuer ns) _ _ i (s.base + (c.args.at + 1 + i)) (name_of (get_or ns.all i _)) _ (omega arith) (names_at ns i _ (omega arith)) c.slot_for.ensures c.loop-i.invariant.2,
-    )
-
-pub returns : goal.returns
-returns c =
-    let s = c.args.self.now in
-    let ns = c.args.names in
-    let l = s.places in
-    let f = ns.few in
+    let l = c.loop-i.self.places in
+    let xs = c.as_slice-name-items.result.now in
+    let e = c.as_slice-name-items.ensures in
+    let n : length xs ≡ a.names.count = ap length e ∙ length-items a.names in
+    let v = c.loop-i.invariant in
     record {
-      base = c.loop-i.invariant.0;
-      gone = c.loop-i.invariant.1;
-      slots = c.loop-i.invariant.2 ∙ laid_all (inbox_of c.args.inbox.now) (ack_of (s.base + c.args.at) c.args.issuer ns) (queue_of s.base s.slots) _ c.loop-i.i (omega (arith, length-names_of ns)) (queue_set s.base s.slots c.args.at (CAck c.args.issuer ns) (omega arith));
+      base = v.base;
+      gone = v.gone;
+      slots = queue_set s.base c.loop-i.self.slots (c.args.at + 1 + i) c.slot_for.result (omega arith)
+          ∙ laid_more (inbox_of c.args.inbox.now) (ack_meant a) _ _ i (s.base + (c.args.at + 1 + i)) (name_of c.name-item.result) _ (omega arith) (sym (ap (λ (ys : List CName). nth_slot (map name_of ys) i) e) ∙ name_slot xs i c.name-item.result (omega arith) c.name-item.is) c.slot_for.ensures v.slots;
     }
+
+pub returns-clause-slots : goal.returns-clause-slots
+returns-clause-slots c =
+    let s = c.args.self.now in
+    let a = c.args.ack in
+    let l = s.places in
+    let n : length c.as_slice-name-items.result.now ≡ a.names.count = ap length c.as_slice-name-items.ensures ∙ length-items a.names in
+    c.loop-i.invariant.slots
+    ∙ laid_all (inbox_of c.args.inbox.now) (ack_meant a) (slots_of s) _ c.loop-i.i (omega (arith, length-names_of a.names))
+    (queue_set s.base s.slots c.args.at (CAck a.issuer a.names) (omega arith) ∙ (λ j t. cond (eqb t (sym c.requires.placed j)) (slot_of (CAck a.issuer a.names)) (slots_of s t)))

@@ -1,0 +1,46 @@
+// Bodies and packets from bytes.
+ghost use Rattle.std.specs.Prelude.{◌≡◌};
+ghost use Rattle.frames.specs.Types.{body_of};
+ghost use Rattle.frames.specs.Made.{BodyFrom, PacketFrom};
+
+use crate::refusal::Refusal;
+use crate::table::Table;
+use crate::types::{Body, Packet};
+
+// One to eight bytes.
+impl TryFrom<&[u8]> for Body {
+    type Error = Refusal;
+
+    ghost try_from_gives = { λ bytes r. BodyFrom bytes.now r };
+
+    fn try_from(bytes: &[u8]) -> Result<Body, Refusal> {
+        match bytes.len() {
+            1..=8 => Ok(Body {
+                bytes: Table::copied(0, bytes),
+            }),
+            _ => Err(Refusal::BadBodyLength),
+        }
+    }
+}
+
+impl Body {
+    pub fn as_slice(&self) -> &[u8]
+        ensures { result.now ≡ body_of self.now }
+    {
+        self.bytes.as_slice()
+    }
+}
+
+// At most 32 bytes.
+impl TryFrom<&[u8]> for Packet {
+    type Error = Refusal;
+
+    ghost try_from_gives = { λ bytes r. PacketFrom bytes.now r };
+
+    fn try_from(bytes: &[u8]) -> Result<Packet, Refusal> {
+        if bytes.len() > 32 {
+            return Err(Refusal::NotAFrame);
+        }
+        Ok(Table::copied(0, bytes))
+    }
+}
