@@ -1,8 +1,9 @@
 -- Flags as sets of heads.
 use Rattle.std.proofs.Common.{◌≡◌, ℕ, zero, suc, ◌+◌, ◌-◌, ◌<◌, ◌≤◌, Bool, true, false, cond, not, ◌||◌, List, [], ◌∷◌, ◌++◌, length, get_or, take, drop, set, replicate, sym, refl, ap, ◌∙◌, arith}
-use Rattle.std.specs.List.{range_with_len}
+use mathlib.Core.Bool.{beq}
+use Rattle.std.specs.List.{range_with_len, list_any}
 use Rattle.std.proofs.lemmas.Bool.{eq-eqb, ne_eqb}
-use Rattle.std.proofs.lemmas.List.{at_drop_more, at_drop_all, drop-replicate, length-replicate, length-take-le}
+use Rattle.std.proofs.lemmas.List.{drop-replicate, length-replicate, length-take-le}
 use Rattle.links.specs.Air.{has, without, is_empty}
 use Rattle.links.specs.Types.{flagged}
 
@@ -46,16 +47,7 @@ first_flags n m ys h e =
     ap (λ zs. flagged 0 (zs ++ drop (n - 0) (replicate m false))) (e ∙ ap (λ j. replicate j true) k)
     ∙ (ap (λ zs. flagged 0 (replicate n true ++ zs)) (drop-replicate (n - 0) m false) ∙ flagged_first 0 n (m - (n - 0)))
 
--- no flag before the i-th is set
-abbrev pub ClearSoFar : ℕ → List Bool → Type 0
-ClearSoFar i bs = is_empty (flagged 0 bs) ≡ is_empty (flagged i (drop i bs))
-
-module _ (bs : List Bool) (i : ℕ) (inv : ClearSoFar i bs) where
-  pub clear_more : i < length bs → get_or bs i false ≡ false → ClearSoFar (i + 1) bs
-  clear_more h e = inv ∙ (at_drop_more (λ cs. is_empty (flagged i cs)) bs i false h ∙ ap (λ b. is_empty (flagged i (b ∷ drop (i + 1) bs))) e)
-
-  pub clear_stops : i < length bs → get_or bs i false ≡ true → false ≡ is_empty (flagged 0 bs)
-  clear_stops h e = sym (inv ∙ (at_drop_more (λ cs. is_empty (flagged i cs)) bs i false h ∙ ap (λ b. is_empty (flagged i (b ∷ drop (i + 1) bs))) e))
-
-  pub clear_all : length bs ≤ i → true ≡ is_empty (flagged 0 bs)
-  clear_all h = sym (inv ∙ at_drop_all (λ cs. is_empty (flagged i cs)) bs i h)
+pub none_flagged : (bs : List Bool) (k : ℕ) → not (list_any (λ b. beq b true) bs) ≡ is_empty (flagged k bs)
+none_flagged [] k = refl
+none_flagged (true ∷ bs) k = refl
+none_flagged (false ∷ bs) k = none_flagged bs (k + 1)

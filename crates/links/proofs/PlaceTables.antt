@@ -1,57 +1,85 @@
--- The table of places, read as the places in use.
-use Rattle.std.proofs.Common.{◌≡◌, ℕ, suc, ◌+◌, ◌<◌, ◌≤◌, Bool, true, false, cond, eqb, List, [], ◌∷◌, ◌++◌, map, length, get_or, take, drop, set, Some, Option, sym, ap, ◌∙◌, subst}
-use Rattle.std.specs.List.{range_with_len, remove}
-use Rattle.std.proofs.lemmas.List.{append-nil, get_or-map, length-map}
-use Rattle.std.proofs.lemmas.Bool.{eq-eqb, ne_eqb, cond-true, cond-false}
-use Rattle.frames.specs.declared.types.Packet.{Packet}
+-- The places in use as a list: which one is found, and what is left when a head stops waiting.
+use Rattle.std.proofs.Common.{◌≡◌, ℕ, zero, suc, ◌<◌, Bool, true, false, cond, List, [], ◌∷◌, ◌++◌, map, length, get_or, take, drop, set, Some, None, Option, MatchOption, sym, refl, ap, ◌∙◌, arith}
+use Rattle.std.specs.List.{remove}
+use Rattle.std.proofs.lemmas.List.{get_or-map, length-map, map-append, take-map, drop-map, map-set, set_split}
+use Rattle.std.proofs.lemmas.Bool.{cond-true, cond-false}
 use Rattle.frames.specs.Types.{packet_of}
 use Rattle.links.specs.declared.types.HeadSet.{HeadSet}
 use Rattle.links.specs.declared.types.Place.{Place}
-use Rattle.links.specs.Air.{Waiting, has, without, is_empty, held, room, added, waits_for, picked, packet_at, blank, no_longer_for, stopped}
+use Rattle.links.specs.Air.{Waiting, without, is_empty, held, waits_for, further, oldest_for, or_else, newest_for, blank, no_longer_for, stopped}
 use Rattle.links.specs.Types.{heads_of, place_of}
-use Rattle.links.proofs.Fronts.{front_more, front_set, front_at}
-use Rattle.links.proofs.Waitings.{Within, held_for_some, held_for_none, freed, still_held}
 
--- the test of a place, as the list has it
-pub item_waits : (h : ℕ) (ps : List Place) (i : ℕ) (x : Place) (b : Bool) → i < length ps → x ≡ get_or ps i x → b ≡ has h (heads_of x.heads) → waits_for h (get_or (map place_of ps) i (place_of x)) ≡ b
-item_waits h ps i x b l r e = ap (waits_for h) (get_or-map place_of ps i x (place_of x) l ∙ ap place_of (sym r)) ∙ sym e
+-- whether the packet at a place waits for a head
+abbrev pub waits : ℕ → Place → Bool
+waits h x = waits_for h (place_of x)
 
-pub within_table : (ps : List Place) (o w : Option ℕ) → o ≡ w → Within w (length (map place_of ps)) → Within o (length ps)
-within_table ps o w e h = subst (λ v. Within v (length ps)) (sym e) (subst (Within w) (length-map ps place_of) h)
+-- none of them waits
+abbrev pub NoneWaits : ℕ → List Place → Type 0
+NoneWaits h xs = (k : ℕ) (d : Place) → k < length xs → waits h (get_or xs k d) ≡ false
 
-module _ (xs : List Waiting) (ps : List Place) (n : ℕ) (p : Packet) (s : HeadSet) (heads : ℕ) (r : map place_of (take n ps) ≡ room xs) where
-  pub added_some : n < length ps → 0 < heads → heads_of s ≡ range_with_len 0 heads → map place_of (take (n + 1) (set ps n (record { packet = p; heads = s }))) ≡ added heads (packet_of p) xs
-  added_some l h e =
-      front_more place_of ps n (record { packet = p; heads = s }) l
-      ∙ (ap (λ zs. zs ++ place_of (record { packet = p; heads = s }) ∷ []) r
-      ∙ ap (λ zs. room xs ++ zs) (ap (λ hs. record { packet = packet_of p; heads = hs } ∷ []) e ∙ sym (held_for_some heads (packet_of p) h)))
+-- the one at i does, and none before it
+pub record IsOldest (h : ℕ) (xs : List Place) (i : ℕ) : Type 0 where
+  pub within : i < length xs
+  pub does : (d : Place) → waits h (get_or xs i d) ≡ true
+  pub none_before : (k : ℕ) (d : Place) → k < i → waits h (get_or xs k d) ≡ false
 
-pub added_none : (xs ys : List Waiting) (p : List ℕ) (heads : ℕ) → ys ≡ room xs → heads ≤ 0 → ys ≡ added heads p xs
-added_none xs ys p heads r h = r ∙ (sym (append-nil (room xs)) ∙ ap (λ zs. room xs ++ zs) (sym (held_for_none heads p h)))
+-- the one at i does, and none after it
+pub record IsNewest (h : ℕ) (xs : List Place) (i : ℕ) : Type 0 where
+  pub within : i < length xs
+  pub does : (d : Place) → waits h (get_or xs i d) ≡ true
+  pub none_after : (k : ℕ) (d : Place) → i < k → k < length xs → waits h (get_or xs k d) ≡ false
 
-module _ (h i n : ℕ) (ps : List Place) (d : Place) (s : HeadSet) (hi : i < n) (l : n ≤ length ps) (e : heads_of s ≡ without h (heads_of (get_or ps i d).heads)) where
-  changed : Place
-  changed = record { packet = (get_or ps i d).packet; heads = s }
+oldest_none : (h : ℕ) (xs : List Place) → NoneWaits h xs → None ≡ oldest_for h (map place_of xs)
+oldest_none h [] a = refl
+oldest_none h (x ∷ xs) a = ap further (oldest_none h xs (λ k d l. a (suc k) d (omega arith))) ∙ sym (cond-false (waits h x) (Some 0) (further (oldest_for h (map place_of xs))) (a 0 x (omega arith)))
 
-  -- the place as the list has it
-  changed_is : no_longer_for h (get_or (map place_of (take n ps)) i blank) ≡ place_of changed
-  unfolding changed
-  changed_is = ap (no_longer_for h) (front_at place_of i n ps d blank hi l) ∙ ap (λ hs. record { packet = packet_of (get_or ps i d).packet; heads = hs }) (sym e)
+oldest_at : (h : ℕ) (xs : List Place) (i : ℕ) → IsOldest h xs i → Some i ≡ oldest_for h (map place_of xs)
+oldest_at h [] i f = absurd (omega (arith, f.within))
+oldest_at h (x ∷ xs) zero f = sym (cond-true (waits h x) (Some 0) (further (oldest_for h (map place_of xs))) (f.does x))
+oldest_at h (x ∷ xs) (suc i) f =
+    ap further (oldest_at h xs i (record { within = omega (arith, f.within); does = f.does; none_before = λ k d l. f.none_before (suc k) d (omega arith) }))
+    ∙ sym (cond-false (waits h x) (Some 0) (further (oldest_for h (map place_of xs))) (f.none_before 0 x (omega arith)))
 
-  pub stops_last : (ys : List Waiting) → true ≡ is_empty (heads_of s) → ys ≡ remove (map place_of (take n ps)) i → ys ≡ stopped h (map place_of (take n ps)) (Some i)
-  unfolding changed
-  stops_last ys t f = f ∙ ap (λ zs. take i (map place_of (take n ps)) ++ (zs ++ drop (suc i) (map place_of (take n ps)))) (sym (ap held changed_is ∙ freed (place_of changed) (sym t)))
+pub oldest_is : (h : ℕ) (xs : List Place) (o : Option ℕ) → MatchOption o (NoneWaits h xs) (IsOldest h xs) → o ≡ oldest_for h (map place_of xs)
+oldest_is h xs None f = oldest_none h xs f
+oldest_is h xs (Some i) f = oldest_at h xs i f
 
-  pub stops_one : false ≡ is_empty (heads_of s) → map place_of (take n (set ps i (record { packet = (get_or ps i d).packet; heads = s }))) ≡ stopped h (map place_of (take n ps)) (Some i)
-  unfolding changed
-  stops_one t = front_set place_of i n ps changed hi l ∙ ap (λ zs. take i (map place_of (take n ps)) ++ (zs ++ drop (suc i) (map place_of (take n ps)))) (sym (ap held changed_is ∙ still_held (place_of changed) (sym t)))
+newest_none : (h : ℕ) (xs : List Place) → NoneWaits h xs → None ≡ newest_for h (map place_of xs)
+newest_none h [] a = refl
+newest_none h (x ∷ xs) a =
+    sym (cond-false (waits h x) (Some 0) None (a 0 x (omega arith)))
+    ∙ ap (λ o. or_else (further o) (cond (waits h x) (Some 0) None)) (newest_none h xs (λ k d l. a (suc k) d (omega arith)))
 
-module _ (c h i n : ℕ) (ps : List Place) (d : Place) (hi : i < n) (l : n ≤ length ps) (e : Some i ≡ picked c h (map place_of (take n ps))) where
-  pub handed_out : Some (packet_of (get_or ps i d).packet) ≡ packet_at (map place_of (take n ps)) (picked c h (map place_of (take n ps)))
-  handed_out = ap (λ (x : Waiting). Some x.packet) (sym (front_at place_of i n ps d blank hi l)) ∙ ap (packet_at (map place_of (take n ps))) e
+newest_at : (h : ℕ) (xs : List Place) (i : ℕ) → IsNewest h xs i → Some i ≡ newest_for h (map place_of xs)
+newest_at h [] i f = absurd (omega (arith, f.within))
+newest_at h (x ∷ xs) zero f =
+    sym (cond-true (waits h x) (Some 0) None (f.does x))
+    ∙ ap (λ o. or_else (further o) (cond (waits h x) (Some 0) None)) (newest_none h xs (λ k d l. f.none_after (suc k) d (omega arith) (omega arith)))
+newest_at h (x ∷ xs) (suc i) f =
+    ap (λ o. or_else (further o) (cond (waits h x) (Some 0) None)) (newest_at h xs i (record { within = omega (arith, f.within); does = f.does; none_after = λ k d l m. f.none_after (suc k) d (omega arith) (omega arith) }))
 
-  pub stops : (ys : List Waiting) → (c ≡ 2 → ⊥) → ys ≡ stopped h (map place_of (take n ps)) (Some i) → ys ≡ cond (eqb c 2) (map place_of (take n ps)) (stopped h (map place_of (take n ps)) (picked c h (map place_of (take n ps))))
-  stops ys z f = f ∙ (ap (stopped h (map place_of (take n ps))) e ∙ sym (cond-false (eqb c 2) (map place_of (take n ps)) (stopped h (map place_of (take n ps)) (picked c h (map place_of (take n ps)))) (ne_eqb c 2 z)))
+pub newest_is : (h : ℕ) (xs : List Place) (o : Option ℕ) → MatchOption o (NoneWaits h xs) (IsNewest h xs) → o ≡ newest_for h (map place_of xs)
+newest_is h xs None f = newest_none h xs f
+newest_is h xs (Some i) f = newest_at h xs i f
 
-  pub goes_on : (ys : List Waiting) → c ≡ 2 → ys ≡ map place_of (take n ps) → ys ≡ cond (eqb c 2) (map place_of (take n ps)) (stopped h (map place_of (take n ps)) (picked c h (map place_of (take n ps))))
-  goes_on ys z f = f ∙ sym (cond-true (eqb c 2) (map place_of (take n ps)) (stopped h (map place_of (take n ps)) (picked c h (map place_of (take n ps)))) (eq-eqb c 2 z))
+removed : {X Y : Type 0} (f : X → Y) (i : ℕ) (xs : List X) → map f (remove xs i) ≡ remove (map f xs) i
+removed f i xs = map-append f (take i xs) (drop (suc i) xs) ∙ (ap (λ zs. zs ++ map f (drop (suc i) xs)) (sym (take-map f i xs)) ∙ ap (λ zs. take i (map f xs) ++ zs) (sym (drop-map f (suc i) xs)))
+
+module _ (h i : ℕ) (xs ys : List Place) (x : Place) (s : HeadSet) (l : i < length xs) (r : x ≡ get_or xs i x) (e : heads_of s ≡ without h (heads_of x.heads)) where
+  -- the place once the head waits no longer
+  abbrev changed : Place
+  changed = record { packet = x.packet; heads = s }
+
+  -- the list around what is held of it
+  around : (zs : List Waiting) → held (place_of changed) ≡ zs → take i (map place_of xs) ++ (zs ++ drop (suc i) (map place_of xs)) ≡ stopped h (map place_of xs) (Some i)
+  around zs f =
+      let w = ap (no_longer_for h) (get_or-map place_of xs i x blank l ∙ ap place_of (sym r)) ∙ ap (λ hs. record { packet = packet_of x.packet; heads = hs }) (sym e) in
+      sym (ap (λ us. take i (map place_of xs) ++ (us ++ drop (suc i) (map place_of xs))) (ap held w ∙ f))
+
+  pub stops_last : true ≡ is_empty (heads_of s) → ys ≡ remove xs i → map place_of ys ≡ stopped h (map place_of xs) (Some i)
+  stops_last t f = ap (map place_of) f ∙ (removed place_of i xs ∙ around [] (cond-true (is_empty (heads_of s)) [] (place_of changed ∷ []) (sym t)))
+
+  pub stops_one : false ≡ is_empty (heads_of s) → ys ≡ set xs i changed → map place_of ys ≡ stopped h (map place_of xs) (Some i)
+  stops_one t f =
+      let m = length-map xs place_of in
+      ap (map place_of) f ∙ (map-set place_of xs i changed ∙ (set_split (map place_of xs) i (place_of changed) (omega arith) ∙ around (place_of changed ∷ []) (cond-false (is_empty (heads_of s)) [] (place_of changed ∷ []) (sym t))))

@@ -2,7 +2,7 @@
 use Rattle.std.proofs.Common.{◌≡◌, ℕ, zero, suc, Bool, true, false, cond, ltb, ◌⊎◌, List, [], ◌∷◌, ◌++◌, length, drop, Option, sym, refl, subst, inl, inr}
 use mathlib.Core.List.Memᴰ
 use mathlib.Core.List.{Memᴰ}
-use Rattle.links.specs.Meaning.{Waits, AfterPut, TakenFrom, AfterTake, Cleared}
+use Rattle.links.specs.Meaning.{Waits, AfterPut, TakenFrom, Cleared}
 use Rattle.links.specs.Wire.{Queues, put_wire, oldest, waiting_wire, taken_wire, take_wire, clear_wire}
 
 in_joined : (b : Bool) (p q : List ℕ) (x : List (List ℕ)) → Memᴰ q (cond b (x ++ p ∷ []) x) → Memᴰ q x ⊎ (q ≡ p)
@@ -32,12 +32,11 @@ left_after_take zero (x ∷ w) (suc k) q m = m
 left_after_take (suc h) (x ∷ w) zero q m = m
 left_after_take (suc h) (x ∷ w) (suc k) q m = left_after_take h w k q m
 
-pub take_keeps_meaning : (h : ℕ) (t : Option (List ℕ)) (w v : Queues) → t ≡ taken_wire h w → v ≡ take_wire h w → AfterTake h t (waiting_wire w) (waiting_wire v)
-take_keeps_meaning h t w v a e =
-    record {
-      waited = subst (λ o. TakenFrom h o (waiting_wire w)) (sym a) (oldest_waited (waiting_wire w) h (waiting_wire w h) refl);
-      left = λ k q m. left_after_take h w k q (subst (λ u. Memᴰ q (waiting_wire u k)) e m);
-    }
+pub taken_waited : (h : ℕ) (t : Option (List ℕ)) (w : Queues) → t ≡ taken_wire h w → TakenFrom h t (waiting_wire w)
+taken_waited h t w a = subst (λ o. TakenFrom h o (waiting_wire w)) (sym a) (oldest_waited (waiting_wire w) h (waiting_wire w h) refl)
+
+pub left_waited : (h : ℕ) (w v : Queues) → v ≡ take_wire h w → (k : ℕ) (q : List ℕ) → Memᴰ q (waiting_wire v k) → Memᴰ q (waiting_wire w k)
+left_waited h w v e k q m = left_after_take h w k q (subst (λ u. Memᴰ q (waiting_wire u k)) e m)
 
 none_waits : (n h : ℕ) (q : List ℕ) → Memᴰ q (waiting_wire (clear_wire n) h) → ⊥
 none_waits zero h q m = Memᴰ.not-nil m

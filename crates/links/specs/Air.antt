@@ -1,6 +1,8 @@
 -- The rules of air.
 use Rattle.std.specs.Prelude.{ℕ, suc, ◌+◌, ◌%◌, Bool, true, false, cond, not, ◌||◌, List, [], ◌∷◌, ◌++◌, map, length, get_or, take, drop, Some, None, filter, Option, ◌==◌, nat_lt, slice_index, slice_index_or}
 use Rattle.std.specs.List.{range_with_len}
+use Rattle.links.specs.declared.types.Choice.{Choice}
+use Rattle.links.specs.declared.types.Choice.TheVariants.{Plain, Lost, Repeated, Newest}
 use Rattle.links.specs.Meaning.{Waits}
 
 -- a packet, and the heads that it waits for
@@ -49,17 +51,25 @@ for_all n p = record { packet = p; heads = range_with_len 0 n }
 abbrev pub added : ℕ → List ℕ → List Waiting → List Waiting
 added n p xs = room xs ++ held (for_all n p)
 
+-- what a choice byte asks for: 1, 2 and 3 have a meaning, and every other none
+abbrev pub choice_of : ℕ → Choice
+choice_of b = cond (b == 1) Lost (cond (b == 2) Repeated (cond (b == 3) Newest Plain))
+
 -- the choice for this put or take
-abbrev pub choice : AirState → ℕ
-choice a = slice_index a.choices a.turn
+abbrev pub choice : AirState → Choice
+choice a = choice_of (slice_index a.choices a.turn)
 
 -- after it the next of the 16 choices comes, and after the last the first
 abbrev pub moved_on : AirState → List Waiting → AirState
 moved_on a xs = record { size = a.size; places = xs; choices = a.choices; turn = (a.turn + 1) % 16 }
 
--- choice 1 loses a put, and drops nothing
+-- the places after a put: one that is lost drops nothing
+abbrev pub put_by : Choice → ℕ → List ℕ → List Waiting → List Waiting
+put_by Lost n p xs = xs
+put_by _ n p xs = added n p xs
+
 abbrev pub put_air : List ℕ → AirState → AirState
-put_air p a = moved_on a (cond (choice a == 1) a.places (added a.size p a.places))
+put_air p a = moved_on a (put_by (choice a) a.size p a.places)
 
 -- a packet waits for a head
 abbrev pub waits_for : ℕ → Waiting → Bool
@@ -85,9 +95,10 @@ abbrev pub newest_for : ℕ → List Waiting → Option ℕ
 newest_for h [] = None
 newest_for h (x ∷ xs) = or_else (further (newest_for h xs)) (cond (waits_for h x) (Some 0) None)
 
--- choice 3 picks the newest, every other the oldest
-abbrev pub picked : ℕ → ℕ → List Waiting → Option ℕ
-picked c h xs = cond (c == 3) (newest_for h xs) (oldest_for h xs)
+-- one choice picks the newest, every other the oldest
+abbrev pub picked : Choice → ℕ → List Waiting → Option ℕ
+picked Newest h xs = newest_for h xs
+picked _ h xs = oldest_for h xs
 
 -- no packet, for no head
 abbrev pub blank : Waiting
@@ -107,6 +118,11 @@ abbrev pub stopped : ℕ → List Waiting → Option ℕ → List Waiting
 stopped h xs None = xs
 stopped h xs (Some i) = take i xs ++ (held (no_longer_for h (slice_index_or xs i blank)) ++ drop (suc i) xs)
 
+-- the places after the packet at one of them is taken: one choice lets it go on waiting
+abbrev pub taken_by : Choice → ℕ → List Waiting → Option ℕ → List Waiting
+taken_by Repeated h xs o = xs
+taken_by _ h xs o = stopped h xs o
+
 -- a head that air does not know gets nothing
 abbrev pub chosen : ℕ → AirState → Option ℕ
 chosen h a = cond (nat_lt h a.size) (picked (choice a) h a.places) None
@@ -115,9 +131,9 @@ chosen h a = cond (nat_lt h a.size) (picked (choice a) h a.places) None
 abbrev pub taken_air : ℕ → AirState → Option (List ℕ)
 taken_air h a = packet_at a.places (chosen h a)
 
--- it waits for the head no longer, except under choice 2
+-- it waits for the head no longer, unless it is to be repeated
 abbrev pub take_air : ℕ → AirState → AirState
-take_air h a = moved_on a (cond (choice a == 2) a.places (stopped h a.places (chosen h a)))
+take_air h a = moved_on a (taken_by (choice a) h a.places (chosen h a))
 
 -- the places are empty, and the next choice stays the next
 abbrev pub clear_air : ℕ → AirState → AirState

@@ -1,8 +1,8 @@
 -- What the types of the code mean.
-use Rattle.std.specs.Prelude.{ℕ, ◌+◌, Bool, cond, List, [], ◌∷◌, map, take, Some, None, Option}
-use Rattle.frames.specs.declared.types.Packet.{Packet}
+use Rattle.std.specs.Prelude.{ℕ, ◌+◌, Bool, cond, List, [], ◌∷◌, map, Some, None, Option}
+use Rattle.frames.specs.declared.table.Table.{Table}
+use Rattle.frames.specs.Tables.{items}
 use Rattle.frames.specs.Types.{packet_of}
-use Rattle.links.specs.declared.types.Queue.{Queue}
 use Rattle.links.specs.declared.types.Wire.{Wire}
 use Rattle.links.specs.declared.types.HeadSet.{HeadSet}
 use Rattle.links.specs.declared.types.Place.{Place}
@@ -13,17 +13,17 @@ use Rattle.links.specs.Wire.{Queues, waiting_wire}
 use Rattle.links.specs.Air.{Waiting, AirState, waiting_air}
 
 -- the packet that a take answers, if any
-abbrev pub taken_of : Option Packet → Option (List ℕ)
+abbrev pub taken_of : Option (Table ℕ 32) → Option (List ℕ)
 taken_of None = None
 taken_of (Some p) = Some (packet_of p)
 
 -- the packets of a queue, the oldest first
-abbrev pub queue_of : Queue → List (List ℕ)
-queue_of q = map packet_of (take q.count q.packets)
+abbrev pub queue_of : Table (Table ℕ 32) 32 → List (List ℕ)
+queue_of q = map packet_of (items q)
 
 -- the queues of a wire, one for each head
 abbrev pub wire_of : Wire → Queues
-wire_of w = map queue_of (take w.heads w.queues)
+wire_of w = map queue_of (items w.queues)
 
 -- the packets that wait for each head of a wire
 abbrev pub wire_waits : Wire → Waits
@@ -44,7 +44,7 @@ place_of x = record { packet = packet_of x.packet; heads = heads_of x.heads }
 
 -- the places in use, the oldest first
 abbrev pub places_of : Places → List Waiting
-places_of s = map place_of (take s.count s.all)
+places_of s = map place_of (items s.table)
 
 -- the places in use, the choices and the number of heads
 abbrev pub air_of : Air → AirState

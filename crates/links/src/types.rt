@@ -1,24 +1,16 @@
-// What wire and air keep: fixed tables, of which a count says how many entries are in use, the oldest first.
-ghost use Rattle.std.specs.Prelude.{◌≡◌, ◌<◌, ◌≤◌, length, replicate};
+// What wire and air keep: packets in fixed tables, the oldest first.
+ghost use Rattle.std.specs.Prelude.{◌≡◌, ◌<◌, ◌≤◌, length};
 
+use frames::table::Table;
 use frames::types::Packet;
 
 // The packets that wait for one head of a wire.
-#[derive(Clone, Copy)]
-pub(crate) struct Queue {
-    pub(crate) packets: [Packet; 32],
-    pub(crate) count: usize,
-    ghost places: { length packets ≡ 32 },
-    ghost within: { count ≤ 32 },
-}
+pub(crate) type Queue = Table<Packet, 32>;
 
-// A queue for each head: the first ones are in use.
+// A queue for each head.
 #[derive(Clone, Copy)]
 pub struct Wire {
-    pub(crate) queues: [Queue; 8],
-    pub(crate) heads: usize,
-    ghost places: { length queues ≡ 8 },
-    ghost within: { heads ≤ 8 },
+    pub(crate) queues: Table<Queue, 8>,
 }
 
 // A set of heads: a flag for each.
@@ -38,10 +30,20 @@ pub(crate) struct Place {
 // The places of air.
 #[derive(Clone, Copy)]
 pub(crate) struct Places {
-    pub(crate) all: [Place; 16],
-    pub(crate) count: usize,
-    ghost places: { length all ≡ 16 },
-    ghost within: { count ≤ 16 },
+    pub(crate) table: Table<Place, 16>,
+}
+
+// What a choice byte does to the put or the take that uses it.
+#[derive(Clone, Copy, PartialEq, Eq)]
+pub(crate) enum Choice {
+    // Nothing.
+    Plain,
+    // The packet put is lost.
+    Lost,
+    // The packet taken goes on waiting.
+    Repeated,
+    // The newest packet is taken in place of the oldest.
+    Newest,
 }
 
 // Choice bytes, and which of them is next.
@@ -60,15 +62,4 @@ pub struct Air {
     pub(crate) choices: Choices,
     pub(crate) heads: usize,
     ghost within: { heads ≤ 8 },
-}
-
-// What stands in the places that are not in use.
-pub(crate) fn empty_packet() -> Packet
-    ensures len { result.len ≡ 0 }
-    ensures bytes { result.bytes ≡ replicate 32 0 }
-{
-    Packet {
-        bytes: [0; 32],
-        len: 0,
-    }
 }

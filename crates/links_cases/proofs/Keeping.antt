@@ -1,32 +1,27 @@
 -- A hoard keeps the meaning of a link.
-use Rattle.std.proofs.Common.{◌≡◌, ℕ, zero, suc, ◌+◌, ◌-◌, ◌<◌, ◌≤◌, min, ◌⊎◌, List, [], ◌∷◌, ◌++◌, map, length, get_or, take, set, sym, refl, ap, ◌∙◌, subst, inl, inr, arith}
+use Rattle.std.proofs.Common.{◌≡◌, ℕ, zero, suc, ◌<◌, Bool, true, false, cond, ◌⊎◌, List, [], ◌∷◌, ◌++◌, map, length, get_or, Some, None, Option, IfSome, sym, ap, subst, inl, inr, arith}
 use mathlib.Core.List.Memᴰ
 use mathlib.Core.List.{Memᴰ}
-use Rattle.std.proofs.lemmas.List.{take_at, take_all, length-take-le}
-use Rattle.std.proofs.lemmas.Bool.{cases_lt}
-use Rattle.links.proofs.Fronts.{front_more, front_at, length_front}
+use Rattle.std.specs.List.{Contains}
+use Rattle.std.proofs.lemmas.List.{map_push}
+use Rattle.frames.specs.declared.table.Table.{Table}
+use Rattle.frames.specs.Types.{packet_of}
+use Rattle.links.specs.Meaning.{TakenFrom}
+use Rattle.links.specs.Types.{taken_of}
 
-at_place : {X : Type 0} (xs : List X) (i : ℕ) (d : X) → i < length xs → Memᴰ (get_or xs i d) xs
-at_place [] i d h = absurd (omega arith)
-at_place (x ∷ xs) zero d h = Memᴰ.head refl
-at_place (x ∷ xs) (suc i) d h = Memᴰ.tail (at_place xs i d (omega arith))
+-- a packet more at the end, or none
+pub kept : (xs ys : List (Table ℕ 32)) (p : Table ℕ 32) (b : Bool) → ys ≡ cond b (xs ++ p ∷ []) xs → (q : List ℕ) → Memᴰ q (map packet_of ys) → Memᴰ q (map packet_of xs) ⊎ (q ≡ packet_of p)
+kept xs ys p b e q m = by_test b (subst (λ zs. Memᴰ q (map packet_of zs)) e m)
+  where
+    by_test : (b : Bool) → Memᴰ q (map packet_of (cond b (xs ++ p ∷ []) xs)) → Memᴰ q (map packet_of xs) ⊎ (q ≡ packet_of p)
+    by_test true n = elim (Memᴰ.append_cases (map packet_of xs) (subst (Memᴰ q) (map_push packet_of xs p) n)) [ inl l ↦ inl l | inr r ↦ inr (Memᴰ.eq_of_singleton r) ]
+    by_test false n = inl n
 
-module _ {X : Type 0} (f : X → List ℕ) (xs : List X) (n : ℕ) where
-  pub kept : (x : X) (q : List ℕ) → n < length xs → Memᴰ q (map f (take (n + 1) (set xs n x))) → Memᴰ q (map f (take n xs)) ⊎ (q ≡ f x)
-  kept x q h m = elim (Memᴰ.append_cases (map f (take n xs)) (subst (Memᴰ q) (front_more f xs n x h) m)) [ inl l ↦ inl l | inr r ↦ inr (Memᴰ.eq_of_singleton r) ]
+at_place : (xs : List (Table ℕ 32)) (i : ℕ) (p : Table ℕ 32) → i < length xs → get_or xs i p ≡ p → Memᴰ (packet_of p) (map packet_of xs)
+at_place [] i p h e = absurd (omega arith)
+at_place (x ∷ xs) zero p h e = Memᴰ.head (ap packet_of (sym e))
+at_place (x ∷ xs) (suc i) p h e = Memᴰ.tail (at_place xs i p (omega arith) e)
 
-  pub handed_out : (i : ℕ) (d : X) → i < n → n ≤ length xs → Memᴰ (f (get_or xs i d)) (map f (take n xs))
-  handed_out i d h l =
-      let k = length_front f xs n l in
-      subst (λ q. Memᴰ q (map f (take n xs))) (front_at f i n xs d (f d) h l) (at_place (map f (take n xs)) i (f d) (omega arith))
-
--- the first 32 bytes, copied
-pub copied : (bs ys post : List ℕ) (m : ℕ) → m ≡ min (length bs) 32 → ys ≡ take (m - 0) bs → take m (ys ++ post) ≡ take 32 bs
-copied bs ys post m e f =
-    let z : m - 0 ≡ m = omega arith in
-    let g = f ∙ ap (λ k. take k bs) z in
-    let l = length-take-le m bs (omega arith) in
-    take_at ys post m (ap length g ∙ l) ∙ (g ∙ elim (cases_lt 32 (length bs)) [
-      | inl h ↦ ap (λ k. take k bs) (let w : m ≡ 32 = omega arith in w)
-      | inr h ↦ take_all m bs (omega arith) ∙ sym (take_all 32 bs h)
-    ])
+pub handed_out : (xs : List (Table ℕ 32)) (o : Option (Table ℕ 32)) (h : ℕ) → IfSome o (Contains xs) → TakenFrom h (taken_of o) (λ k. map packet_of xs)
+handed_out xs None h c = tt
+handed_out xs (Some p) h c = at_place xs c.0 p c.1 c.2

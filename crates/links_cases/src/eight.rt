@@ -13,18 +13,12 @@ fn fill<L: Link>(link: &mut L, heads: u8) {
 }
 
 // How many of 40 takes for a head hand something out.
-fn taken<L: Link>(link: &mut L, head: u8) -> u8 {
-    let mut count = 0u8;
-    for _ in 0..40u8 {
-        if link.take(head).is_some() {
-            count = count.saturating_add(1);
-        }
-    }
-    count
+fn taken<L: Link>(link: &mut L, head: u8) -> usize {
+    (0..40u8).filter_map(|_| link.take(head)).count()
 }
 
 // Each head takes so many, and the head past the last none.
-fn each_takes<L: Link>(rt: &impl Abort, link: &mut L, heads: u8, most: u8) {
+fn each_takes<L: Link>(rt: &impl Abort, link: &mut L, heads: u8, most: usize) {
     fill(link, heads);
     for head in 0..heads {
         assert_eq!(rt; taken(link, head), most);

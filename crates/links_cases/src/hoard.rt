@@ -3,6 +3,7 @@ ghost use Rattle.std.specs.Prelude.{◌≡◌, []};
 ghost use Rattle.links_cases.specs.Hoards.{hoard_of, waiting_hoard};
 
 use crate::types::Hoard;
+use frames::table::Table;
 use frames::types::{Packet, RingSize};
 use links::link::Link;
 
@@ -10,13 +11,8 @@ impl Hoard {
     pub(crate) fn new() -> Hoard
         ensures { hoard_of result ≡ [] }
     {
-        let empty = Packet {
-            bytes: [0; 32],
-            len: 0,
-        };
         Hoard {
-            packets: [empty; 64],
-            count: 0,
+            packets: Table::empty(Table::empty(0)),
             whim: 0,
         }
     }
@@ -26,22 +22,17 @@ impl Link for Hoard {
     ghost waits = { waiting_hoard };
 
     fn put(&mut self, packet: Packet) {
-        if self.count < 64 {
-            self.packets[self.count] = packet;
-            self.count += 1;
-        }
+        self.packets.push(packet);
     }
 
     fn take(&mut self, head: u8) -> Option<Packet> {
         self.whim = self.whim.wrapping_add(7);
-        if self.count == 0 {
-            return None;
-        }
-        let i = (self.whim as usize + head as usize) % self.count;
-        Some(self.packets[i])
+        let packets = self.packets.as_slice();
+        let i = (usize::from(self.whim) + usize::from(head)).checked_rem(packets.len())?;
+        packets.get(i).copied()
     }
 
     fn clear(&mut self, size: RingSize) {
-        self.count = 0;
+        self.packets.count = 0;
     }
 }

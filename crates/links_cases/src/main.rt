@@ -9,11 +9,13 @@ mod eight;
 mod hoard;
 mod types;
 
+use frames::table::Table;
 use frames::types::{Packet, RingSize};
 use links::link::Link;
 use links::pass::pass;
 use links::types::{Air, Wire};
 use std::alloc::{AllocError, Global};
+use std::{array, fmt};
 use types::Hoard;
 
 // A packet of the bytes, the first 32 of them at most.
@@ -21,18 +23,13 @@ fn packet(bytes: &[u8]) -> Packet
     ensures { packet_of result ≡ take 32 bytes.now }
 {
     let len = bytes.len().min(32);
-    let mut all = [0; 32];
-    all[0..len].copy_from_slice(&bytes[0..len]);
-    Packet {
-        bytes: all,
-        len: len as u8,
-    }
+    Table::copied(0, &bytes[..len])
 }
 
 // Clears, if the number of heads is a ring's.
 fn clear<L: Link>(link: &mut L, heads: u8) {
-    if heads >= 2 && heads <= 8 {
-        link.clear(RingSize { heads });
+    if let Ok(size) = RingSize::try_from(heads) {
+        link.clear(size);
     }
 }
 
@@ -55,32 +52,27 @@ fn call<L: Link>(link: &mut L, word: &str, numbers: &[u8]) -> Option<Packet> {
 
 // The numbers of a line; its words are passed over.
 fn numbers(heap: Global, line: &str) -> Result<Vec<u8>, AllocError> {
-    let mut found = Vec::new(heap);
-    for word in line.split_whitespace() {
-        if let Ok(number) = word.parse::<u8>() {
-            found.push(number)?;
-        }
-    }
-    Ok(found)
+    line.split_whitespace()
+        .filter_map(|word| word.parse().ok())
+        .collect(heap)
 }
 
+// The first 16 numbers, and 0 for those that are missing.
 fn choices(numbers: &[u8]) -> [u8; 16] {
-    let mut all = [0; 16];
-    for (i, number) in numbers.iter().take(16).enumerate() {
-        all[i] = *number;
-    }
-    all
+    array::from_fn(|i| numbers.get(i).copied().unwrap_or(0))
 }
 
-fn show(rt: &HostRuntime, answer: Option<Packet>) -> anyhow::Result<()> {
-    match answer {
-        None => println!(rt; "nothing")?,
-        Some(packet) => {
-            let bytes = &packet.bytes[0..packet.len as usize];
-            println!(rt; "{bytes:?}")?
+// An answer as it is printed.
+#[derive(Clone, Copy)]
+struct Answer(Option<Packet>);
+
+impl fmt::Display for Answer {
+    fn fmt<W: fmt::Write>(&self, f: &mut fmt::Formatter<W>) -> fmt::Result {
+        match self.0 {
+            None => write!(f, "nothing"),
+            Some(packet) => write!(f, "{:?}", packet.as_slice()),
         }
     }
-    Ok(())
 }
 
 fn main(rt: HostRuntime) -> anyhow::Result<()> {
@@ -90,21 +82,22 @@ fn main(rt: HostRuntime) -> anyhow::Result<()> {
     let mut hoard = Hoard::new();
     for line in rt.lines(heap) {
         let line = line?;
-        let found = numbers(heap, line.as_str())?;
+        let found = numbers(heap, &line)?;
         let mut words = line.as_str().split_whitespace();
         let link = words.next().unwrap_or("");
         let word = words.next().unwrap_or("");
+        // Each by its own type: a dyn link cannot stand for the type parameter of pass.
         let answer = match link {
-            "wire" => call(&mut wire, word, found.as_slice()),
-            "air" => call(&mut air, word, found.as_slice()),
+            "wire" => call(&mut wire, word, &found),
+            "air" => call(&mut air, word, &found),
             "choices" => {
-                air = Air::new(choices(found.as_slice()));
+                air = Air::new(choices(&found));
                 None
             }
-            _ => call(&mut hoard, word, found.as_slice()),
+            _ => call(&mut hoard, word, &found),
         };
-        if word == "take" || word == "pass" {
-            show(&rt, answer)?;
+        if matches!(word, "take" | "pass") {
+            println!(rt; "{}", Answer(answer))?;
         }
     }
     Ok(())

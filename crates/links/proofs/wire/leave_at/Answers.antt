@@ -1,11 +1,14 @@
-use Rattle.links.specs.Types.{queue_of, taken_of}
-use Rattle.links.proofs.Queues.{leaves_known, leaves_unknown}
+use Rattle.std.proofs.Common.{length-set, arith}
+use Rattle.links.specs.Types.{queue_of}
+use Rattle.links.specs.Wire.{take_wire}
+use Rattle.links.proofs.Fronts.{given_back}
+use Rattle.links.proofs.Queues.{leaves_known}
 use Rattle.links.proofs.wire.leave_at.Goals as goal
 
-pub returns-then-head-queues : goal.returns-then-head-queues
-returns-then-head-queues c =
-    let e = leaves_known queue_of c.args.queues.now c.args.head c.index-queues-head.result c.leave.new.self (taken_of c.leave.result) c.if-head-queues.true c.leave.ensures.answer c.leave.ensures.after in
-    record { answer = e.0; after = e.1 }
-
-pub returns-else-head-queues : goal.returns-else-head-queues
-returns-else-head-queues c = let e = leaves_unknown queue_of c.args.queues.now c.args.head c.if-head-queues.false in record { answer = e.0; after = e.1 }
+pub returns-then-head-known-clause-after : goal.returns-then-head-known-clause-after
+returns-then-head-known-clause-after c =
+    let t = c.args.queues.now in
+    let l = t.filled in
+    let w = t.within in
+    let e = leaves_known queue_of _ c.args.head c.index-known-head.result c.leave.new.queue c.if-head-known.true c.leave.ensures.after in
+    given_back queue_of t.count t.places (take_wire c.args.head) _ _ (omega arith) (length-set _ c.args.head c.leave.new.queue) e
