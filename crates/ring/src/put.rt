@@ -32,7 +32,7 @@ fn put_all<L: Link>(link: &mut L, size: RingSize, puts: Frames)
     requires { (f : MFrame) → Memᴰ f (puts_of puts) → frame_ok size.heads f ≡ true }
     ensures { AfterPuts (map (written size.heads) (puts_of puts)) (L.waits link.old) (L.waits link.new) }
 {
-    for frame in &puts.all[..puts.count as usize] {
+    for frame in puts.as_slice() {
         put_one(link, size, *frame);
     }
 }

@@ -64,7 +64,7 @@ impl Roster {
     pub fn start<L: Link>(self, mut link: L) -> Result<Ring<L>, NotStarted<L>>
         ensures { MatchResult result (λ s. Started self.count s.heads (L.waits s.link)) (λ e. (self.count < 2) × (e.refusal ≡ TooFewHeads) × (e.roster ≡ self) × (e.link ≡ link)) }
     {
-        match RingSize::new(self.count) {
+        match RingSize::try_from(self.count) {
             Ok(size) => {
                 link.clear(size);
                 Ok(Ring {
