@@ -21,5 +21,4 @@ pub mod Putting
 pub mod Tables
 pub mod Moving
 pub mod Fresh
-pub mod Asking
 pub mod Sequences

@@ -1,5 +1,5 @@
 -- A call on one head of a table, as a step of the ring.
-use Rattle.std.proofs.Common.{◌≡◌, ℕ, ◌<◌, ◌≤◌, true, ◌⊎◌, List, [], ◌∷◌, map, length, get_or, set, None, Ok, Err, Option, Result, sym, refl, ap, ◌∙◌, subst, inl, inr, arith}
+use Rattle.std.proofs.Common.{◌≡◌, ℕ, ◌<◌, ◌≤◌, true, ◌⊎◌, List, [], ◌∷◌, map, length, get_or, set, None, Ok, Err, Result, sym, refl, ap, ◌∙◌, subst, inl, inr, arith}
 use mathlib.Core.List.{Memᴰ}
 use Rattle.frames.specs.declared.refusal.Refusal.{Refusal}
 use Rattle.frames.specs.declared.refusal.Refusal.TheVariants.{NoSuchHead}
@@ -19,13 +19,9 @@ use Rattle.ring.specs.Ring.{Ring, Call, Event, Step, Missed, Trip, started, then
 use Rattle.ring.specs.Law.{Lawful}
 use Rattle.ring.specs.Starting.{Started}
 use Rattle.ring.specs.Table.{head_at}
-use Rattle.ring.specs.Moves.{Acted, Moved, ring_of, answer_in, puts_in, answered}
+use Rattle.ring.specs.Moves.{Meaning, Performs, Moved, ring_of, answer_in, puts_in, answered}
 use Rattle.ring.proofs.Tables.{Facts, facts, at_place, size_at, ranged_at, head_set, facts_set}
 use Rattle.ring.proofs.Trip.{law, perform_writable}
-
--- the call of the code on an element of a table
-pub acted : {A : Type 0} (g : ℕ) (c : Call) (t : Option (List ℕ)) (word : A → Answer) (d : Result (CDone A) Refusal) (hs : List Member) (x y : Member) → x ≡ get_or hs g x → y.head.size ≡ (get_or hs g x).head.size → does word d (model_of y) ≡ perform (get_or hs g x).head.size.heads c t (model_of (get_or hs g x)) → Acted g c t word d hs (set hs g y)
-acted g c t word d hs x y e s p = record { was = get_or hs g x; is = y; before = ap (λ (z : Member). get_or hs g z) (sym e); after = refl; size = s; done = p }
 
 -- a step, or a call that missed, is one event more of every trip
 
@@ -62,42 +58,42 @@ does_answer : {A : Type 0} (word : A → Answer) (d : Result (CDone A) Refusal) 
 does_answer word (Ok d) h = refl
 does_answer word (Err e) h = refl
 
-module _ {A : Type 0} {g : ℕ} {c : Call} {t : Option (List ℕ)} {word : A → Answer} {d : Result (CDone A) Refusal} {ks : List Member} (x : Heads) (b : g < x.size.heads) (a : Acted g c t word d x.all ks) where
+module _ {A : Type 0} {m : Meaning A} {d : Result (CDone A) Refusal} {was is : Member} (x : Heads) (g : ℕ) (b : g < x.size.heads) (before : get_or x.all g was ≡ was) (p : Performs m was d is) where
   there : g < length x.all
   there = omega (arith, x.places, x.size.most)
 
-  was_sized : a.was.head.size.heads ≡ x.size.heads
-  was_sized = sym (size_at x.size.heads x.all g a.was there a.before) ∙ x.sized g b
+  was_sized : was.head.size.heads ≡ x.size.heads
+  was_sized = sym (size_at x.size.heads x.all g was there before) ∙ x.sized g b
 
-  did_it : does word d (model_of a.is) ≡ perform x.size.heads c t (head_at x.all g)
-  did_it = a.done ∙ (λ j. perform (was_sized j) c t (sym (at_place x.all g a.was there a.before) j))
+  did_it : does m.word d (model_of is) ≡ perform x.size.heads m.call m.taken (head_at x.all g)
+  did_it = p.done ∙ (λ j. perform (was_sized j) m.call m.taken (sym (at_place x.all g was there before) j))
 
-  writable : Writable x.size.heads (does word d (model_of a.is))
-  writable = subst (Writable x.size.heads) (sym did_it) (perform_writable x.size.heads c t (head_at x.all g) (ranged_at x.size.heads x.all (facts x) g b))
+  writable : Writable x.size.heads (does m.word d (model_of is))
+  writable = subst (Writable x.size.heads) (sym did_it) (perform_writable x.size.heads m.call m.taken (head_at x.all g) (ranged_at x.size.heads x.all (facts x) g b))
 
   -- the heads after the call are in their ranges
-  pub facts_after : Facts x.size.heads ks
-  facts_after = subst (Facts x.size.heads) (sym a.after) (facts_set x.all g a.is there x.size.heads (facts x) (ap (λ s. s.heads) a.size ∙ was_sized) (subst (InRange x.size.heads) (does_head word d (model_of a.is)) writable.after))
+  pub facts_after : Facts x.size.heads (set x.all g is)
+  facts_after = facts_set x.all g is there x.size.heads (facts x) (ap (λ s. s.heads) p.size ∙ was_sized) (subst (InRange x.size.heads) (does_head m.word d (model_of is)) writable.after)
 
   -- what it puts can be written
   pub all_written : (f : Frame) → Memᴰ f (puts_in d) → frame_ok x.size.heads f ≡ true
-  all_written f m = writable.frames_ok f (subst (Memᴰ f) (sym (does_puts word d (model_of a.is))) m)
+  all_written f k = writable.frames_ok f (subst (Memᴰ f) (sym (does_puts m.word d (model_of is))) k)
 
   -- with what was taken before it and put after it
-  pub moved : (y : Heads) → y.size ≡ x.size → y.all ≡ ks → (w u v : Waits) → Takes c g t w u → AfterPuts (map (written x.size.heads) (puts_in d)) u v → (r : Result A Refusal) → r ≡ answer_in d → Moved x w g c (answered word r) y v
-  moved y z l w u v k p r e =
-      made_move x w g c (answered word r) y v
-      (record { who = g; call = c; taken = t; answer = answered word r; put = map (written x.size.heads) (puts_in d); issued = (does word d (model_of a.is)).issued })
+  pub moved : (y : Heads) → y.size ≡ x.size → y.all ≡ set x.all g is → (w u v : Waits) → Takes m.call g m.taken w u → AfterPuts (map (written x.size.heads) (puts_in d)) u v → (r : Result A Refusal) → r ≡ answer_in d → Moved x w g m.call (answered m.word r) y v
+  moved y z l w u v k q r e =
+      made_move x w g m.call (answered m.word r) y v
+      (record { who = g; call = m.call; taken = m.taken; answer = answered m.word r; put = map (written x.size.heads) (puts_in d); issued = (does m.word d (model_of is)).issued })
       z refl refl refl
       (inl (record {
         between = u;
         within = b;
         takes = k;
-        answers = ap (answered word) e ∙ (sym (does_answer word d (model_of a.is)) ∙ ap (λ (q : Done). q.answer) did_it);
-        puts = ap (map (written x.size.heads)) (sym (does_puts word d (model_of a.is)) ∙ ap (λ (q : Done). q.puts) did_it);
-        issues = ap (λ (q : Done). q.issued) did_it;
-        linked = p;
-        heads = ap head_at (l ∙ a.after) ∙ (head_set x.all g a.is there ∙ ap (put_head (head_at x.all) g) (sym (does_head word d (model_of a.is)) ∙ ap (λ (q : Done). q.head) did_it));
+        answers = ap (answered m.word) e ∙ (sym (does_answer m.word d (model_of is)) ∙ ap (λ (o : Done). o.answer) did_it);
+        puts = ap (map (written x.size.heads)) (sym (does_puts m.word d (model_of is)) ∙ ap (λ (o : Done). o.puts) did_it);
+        issues = ap (λ (o : Done). o.issued) did_it;
+        linked = q;
+        heads = ap head_at l ∙ (head_set x.all g is there ∙ ap (put_head (head_at x.all) g) (sym (does_head m.word d (model_of is)) ∙ ap (λ (o : Done). o.head) did_it));
       }))
 
 -- the start

@@ -1,7 +1,7 @@
 -- Frames put one after another.
-use Rattle.std.proofs.Common.{ℕ, zero, suc, ◌+◌, ◌<◌, ◌≤◌, List, [], ◌∷◌, ◌++◌, map, length, get_or, take, sym, refl, ap, ◌∙◌, subst, arith}
+use Rattle.std.proofs.Common.{ℕ, zero, suc, ◌+◌, ◌<◌, List, [], ◌∷◌, ◌++◌, map, length, get_or, take, sym, refl, ap, ◌∙◌, subst, arith}
 use mathlib.Core.List.{Memᴰ}
-use Rattle.std.proofs.lemmas.List.{take_more, map_push, get_or-map, get_or-take, length-map, length-take-le}
+use Rattle.std.proofs.lemmas.List.{take_more, map_push, get_or-map, length-map}
 use Rattle.links.specs.Meaning.{Waits, AfterPut}
 use Rattle.ring.specs.Ring.{AfterPuts}
 
@@ -20,9 +20,8 @@ mem_at [] i d h = absurd (omega arith)
 mem_at (x ∷ xs) zero d h = Memᴰ.head refl
 mem_at (x ∷ xs) (suc i) d h = Memᴰ.tail (mem_at xs i d (omega arith))
 
--- an item of those in use
-pub mem_front : {X Y : Type 0} (f : X → Y) (n : ℕ) (xs : List X) (i : ℕ) (d : X) → i < n → n ≤ length xs → Memᴰ (f (get_or xs i d)) (map f (take n xs))
-mem_front f n xs i d h l =
-    let k = length-take-le n xs l in
-    let m = length-map (take n xs) f in
-    subst (λ y. Memᴰ y (map f (take n xs))) (get_or-map f (take n xs) i d (f d) (omega arith) ∙ ap f (get_or-take n xs i d h)) (mem_at (map f (take n xs)) i (f d) (omega arith))
+-- what an item means is among what all mean
+pub mem_mapped : {X Y : Type 0} (f : X → Y) (xs : List X) (i : ℕ) (d : X) → i < length xs → Memᴰ (f (get_or xs i d)) (map f xs)
+mem_mapped f xs i d h =
+    let m = length-map xs f in
+    subst (λ y. Memᴰ y (map f xs)) (get_or-map f xs i d (f d) h) (mem_at (map f xs) i (f d) (omega arith))

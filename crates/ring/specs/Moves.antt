@@ -1,5 +1,7 @@
 -- What a call on a ring in code does, in the words of the model.
-use Rattle.std.specs.Prelude.{◌≡◌, ℕ, ◌⊎◌, List, [], ◌∷◌, Ok, Err, Option, Result, slice_index_or, slice_set}
+use Rattle.std.specs.Prelude.{◌≡◌, ℕ, ◌⊎◌, List, [], ◌∷◌, Ok, Err, Option, Result}
+use Rattle.std.specs.Fn.{Once, FnOnceReturnsAtMut}
+use denote.Ref.{MutBor}
 use Rattle.frames.specs.declared.refusal.Refusal.{Refusal}
 use Rattle.frames.specs.Values.{Frame}
 use Rattle.links.specs.Meaning.{Waits}
@@ -10,6 +12,7 @@ use Rattle.calls.specs.declared.member.Member.{Member}
 use Rattle.calls.specs.Members.{model_of}
 use Rattle.calls.specs.Answers.{does}
 use Rattle.ring.specs.declared.types.Heads.{Heads}
+use Rattle.ring.specs.declared.types.Ring.{Ring as CRing}
 use Rattle.ring.specs.Ring.{Ring, Event, Call, Step, Missed, Trip, perform}
 use Rattle.ring.specs.Law.{Lawful}
 use Rattle.ring.specs.Table.{head_at}
@@ -24,18 +27,28 @@ abbrev pub puts_in : {A : Type 0} → Result (CDone A) Refusal → List Frame
 puts_in (Ok d) = puts_of d.puts
 puts_in (Err e) = []
 
--- the call on the head g of a table did what the model says, by the word of its answer, and every other head is as it was
-pub record Acted {A : Type 0} (g : ℕ) (c : Call) (t : Option (List ℕ)) (word : A → Answer) (d : Result (CDone A) Refusal) (hs ks : List Member) : Type 0 where
-  pub was : Member
-  pub is : Member
-  pub before : slice_index_or hs g was ≡ was
-  pub after : ks ≡ slice_set hs g is
-  pub size : is.head.size ≡ was.head.size
-  pub done : does word d (model_of is) ≡ perform was.head.size.heads c t (model_of was)
+-- what a call on one head means: the call of the model, the packet that it hears, and the word of its answer
+pub record Meaning (A : Type 0) : Type 0 where
+  pub call : Call
+  pub taken : Option (List ℕ)
+  pub word : A → Answer
+
+-- a head's call did what the model says: it was the head x, and is y
+pub record Performs {A : Type 0} (m : Meaning A) (x : Member) (d : Result (CDone A) Refusal) (y : Member) : Type 0 where
+  pub size : y.head.size ≡ x.head.size
+  pub done : does m.word d (model_of y) ≡ perform x.head.size.heads m.call m.taken (model_of x)
+
+-- whatever the call f of one head does, it does as is meant
+abbrev pub Means : {F A : Type 0} → Once F (MutBor Member × Unit {0}) (Result (CDone A) Refusal × (MutBor Member × Unit {0})) → F → Meaning A → Type 0
+Means {F} {A} calls f m = (x : Member) (d : Result (CDone A) Refusal) (y : Member) → FnOnceReturnsAtMut calls f x d y → Performs m x d y
 
 -- the heads of a ring, and what waits on its link
 abbrev pub ring_of : Heads → Waits → Ring
 ring_of hs w = record { heads = head_at hs.all; waits = w }
+
+-- the ring that a running ring is, by what waits on its link
+abbrev pub ring_over : {L : Type 0} → (L → Waits) → CRing L → Ring
+ring_over waits r = ring_of r.heads (waits r.link)
 
 -- the heads alone: nothing waits
 abbrev pub at_rest : Heads → Ring
@@ -57,3 +70,7 @@ pub record Moved (hs : Heads) (w : Waits) (g : ℕ) (c : Call) (a : Answer) (ks 
   pub step : Step hs.size.heads (ring_of hs w) event (ring_of ks v) ⊎ Missed hs.size.heads (ring_of hs w) event (ring_of ks v)
   pub leads : (es : List Event) → Trip hs.size.heads es (ring_of hs w) → Trip hs.size.heads (event ∷ es) (ring_of ks v)
   pub law : (es : List Event) → Trip hs.size.heads es (ring_of hs w) → Lawful hs.size.heads (event ∷ es) (ring_of ks v)
+
+-- the same, from a running ring to the one that the call leaves
+abbrev pub Moves : {L : Type 0} → (L → Waits) → CRing L → ℕ → Call → Answer → CRing L → Type 0
+Moves waits r g c a s = Moved r.heads (waits r.link) g c a s.heads (waits s.link)

@@ -9,10 +9,10 @@ use Rattle.ring.specs.declared.request.Request.{Request}
 use Rattle.ring.specs.declared.request.Answer.{Answer as CAnswer}
 use Rattle.ring.specs.declared.request.Answer.TheVariants.{Submitted, Heard, Turned, Ticked, Delivered}
 use Rattle.ring.specs.declared.request.Outcome.{Outcome}
-use Rattle.ring.specs.declared.types.Heads.{Heads}
+use Rattle.ring.specs.declared.types.Ring.{Ring as CRing}
 use Rattle.ring.specs.Ring.{Event, Call, submits, hears, turns, ticks, delivers, Trip}
 use Rattle.ring.specs.Law.{Lawful}
-use Rattle.ring.specs.Moves.{Moved, answered, ring_of}
+use Rattle.ring.specs.Moves.{Moves, answered, ring_over}
 
 -- the call that is meant
 abbrev pub call_of : CCall → Call
@@ -32,10 +32,10 @@ word_of (Delivered a) = handed a
 
 -- the calls were made one after another, with these outcomes: each moved the ring as its own contract says, and after each of them the trip
 -- with its event leads to the ring, and all three hold
-abbrev pub LawfulRun : List Request → List Outcome → List Event → Heads → Waits → Heads → Waits → Type 0
-LawfulRun [] [] es hs w ks v = (hs ≡ ks) × (w ≡ v)
-LawfulRun [] (x ∷ xs) es hs w ks v = ⊥
-LawfulRun (q ∷ qs) [] es hs w ks v = ⊥
-LawfulRun (q ∷ qs) (x ∷ xs) es hs w ks v =
-    (ms : Heads) × (u : Waits) × (m : Moved hs w q.head (call_of q.call) (answered word_of x.result) ms u) × (x.head ≡ q.head)
-    × Trip hs.size.heads (m.event ∷ es) (ring_of ms u) × Lawful hs.size.heads (m.event ∷ es) (ring_of ms u) × LawfulRun qs xs (m.event ∷ es) ms u ks v
+abbrev pub LawfulRun : {L : Type 0} → (L → Waits) → List Request → List Outcome → List Event → CRing L → CRing L → Type 0
+LawfulRun waits [] [] es r s = r ≡ s
+LawfulRun waits [] (x ∷ xs) es r s = ⊥
+LawfulRun waits (q ∷ qs) [] es r s = ⊥
+LawfulRun {L} waits (q ∷ qs) (x ∷ xs) es r s =
+    (t : CRing L) × (m : Moves waits r q.head (call_of q.call) (answered word_of x.result) t) × (x.head ≡ q.head)
+    × Trip r.heads.size.heads (m.event ∷ es) (ring_over waits t) × Lawful r.heads.size.heads (m.event ∷ es) (ring_over waits t) × LawfulRun waits qs xs (m.event ∷ es) t s

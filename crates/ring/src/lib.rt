@@ -1,7 +1,6 @@
 // The ring of probe heads and what holds of it.
 #![tactic(auto)]
 
-pub mod ask;
 pub mod docked;
 pub mod law;
 pub mod put;
@@ -10,5 +9,4 @@ pub mod request;
 pub mod roster;
 pub mod run;
 pub mod running;
-pub mod table;
 pub mod types;

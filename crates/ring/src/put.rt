@@ -32,9 +32,8 @@ fn put_all<L: Link>(link: &mut L, size: RingSize, puts: Frames)
     requires { (f : MFrame) → Memᴰ f (puts_of puts) → frame_ok size.heads f ≡ true }
     ensures { AfterPuts (map (written size.heads) (puts_of puts)) (L.waits link.old) (L.waits link.new) }
 {
-    for i in 0..puts.count as usize {
-        let frame = puts.all[i];
-        put_one(link, size, frame);
+    for frame in puts.as_slice() {
+        put_one(link, size, *frame);
     }
 }
 

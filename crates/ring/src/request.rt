@@ -3,7 +3,7 @@ use calls::answers::{Delivered, Hearing, Submission, Ticked, Turned};
 use frames::refusal::Refusal;
 
 // A call, with its inputs.
-#[derive(Clone, Copy)]
+#[derive(Clone, Copy, PartialEq, Eq, Debug)]
 pub enum Call<'a> {
     Submit { level: u8, body: &'a [u8] },
     Hear,
@@ -13,7 +13,7 @@ pub enum Call<'a> {
 }
 
 // A call on a head.
-#[derive(Clone, Copy)]
+#[derive(Clone, Copy, PartialEq, Eq, Debug)]
 pub struct Request<'a> {
     pub head: u8,
     pub call: Call<'a>,

@@ -12,6 +12,7 @@ use calls::member::Member;
 use frames::refusal::Refusal;
 use frames::types::RingSize;
 use links::link::Link;
+use std::array;
 
 // The head of this number at the start, in a ring of this size; past its size, as a head of eight.
 fn fresh_head(size: RingSize, me: u8) -> Member
@@ -32,11 +33,10 @@ impl Heads {
         ensures size { result.size ≡ size }
         ensures heads { head_at result.all ≡ fresh }
     {
-        let mut all = [fresh_head(size, 0); 8];
-        for i in 1..8 {
-            all[i as usize] = fresh_head(size, i);
+        Heads {
+            all: array::from_fn(|me| fresh_head(size, me as u8)),
+            size,
         }
-        Heads { all, size }
     }
 }
 
@@ -64,7 +64,7 @@ impl Roster {
     pub fn start<L: Link>(self, mut link: L) -> Result<Ring<L>, NotStarted<L>>
         ensures { MatchResult result (λ s. Started self.count s.heads (L.waits s.link)) (λ e. (self.count < 2) × (e.refusal ≡ TooFewHeads) × (e.roster ≡ self) × (e.link ≡ link)) }
     {
-        match RingSize::new(self.count) {
+        match RingSize::try_from(self.count) {
             Ok(size) => {
                 link.clear(size);
                 Ok(Ring {

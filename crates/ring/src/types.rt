@@ -5,15 +5,16 @@ ghost use Rattle.ring.specs.Table.{Sized, Numbered, KeptRanged, SlotsRanged};
 use calls::member::Member;
 use frames::refusal::Refusal;
 use frames::types::RingSize;
+use thiserror::Error;
 
 // How many heads are fitted.
-#[derive(Drop)]
+#[derive(Debug, Drop)]
 pub struct Roster {
     pub(crate) count: u8,
     ghost most: { count ≤ 8 },
 }
 
-// A head for each number. A ring has the first ones, as many as its size says.
+// A head for each number. A ring has the first ones, as many as its size says: a device has fixed memory and no heap.
 #[derive(Drop)]
 pub struct Heads {
     pub(crate) all: [Member; 8],
@@ -39,7 +40,8 @@ pub struct Docked {
 }
 
 // A start that was refused gives back what it was given.
-#[derive(Drop)]
+#[derive(Debug, Drop, Error)]
+#[error("{refusal}")]
 pub struct NotStarted<L> {
     pub refusal: Refusal,
     pub roster: Roster,

@@ -1,16 +1,13 @@
-use Rattle.std.proofs.Common.{arith}
 use Rattle.frames.specs.Types.{frame_of}
 use Rattle.frames.specs.Written.{written}
-use Rattle.ring.proofs.Putting.{put_more, mem_front}
+use Rattle.ring.proofs.Putting.{put_more, mem_mapped}
 use Rattle.ring.proofs.put.put_all.Goals as goal
 
 pub put_one-requires : goal.put_one-requires
 put_one-requires g c =
-    let p = c.args.puts in
-    c.requires _ (mem_front frame_of p.count p.all c.loop-i.i c.index-puts-i.result (omega arith) (omega (arith, p.places, p.few)))
+    let e = c.as_slice-frame-items.ensures in
+    let item = mem_mapped frame_of c.as_slice-frame-items.result.now c.loop-frame.frame-index c.frame-item.result c.loop-frame-test.true in
+    rw (c.frame-item.is, e) (c.requires _ (rw e at item))
 
-pub loop-i-preserved : goal.loop-i-preserved
-loop-i-preserved g c =
-    let p = c.args.puts in
-    let k = p.places in
-    put_more frame_of (written c.args.size.heads) p.all c.loop-i.i c.index-puts-i.result (omega (arith, p.few)) _ _ _ c.loop-i.invariant c.put_one.ensures
+pub loop-frame-preserved : goal.loop-frame-preserved
+loop-frame-preserved g c = put_more frame_of (written c.args.size.heads) c.as_slice-frame-items.result.now c.loop-frame.frame-index c.frame-item.result c.loop-frame-test.true _ _ _ c.loop-frame.invariant (rw (← c.frame-item.is) c.put_one.ensures)

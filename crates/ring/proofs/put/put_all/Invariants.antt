@@ -5,5 +5,5 @@ use Rattle.ring.specs.Ring.{AfterPuts}
 use Rattle.ring.proofs.put.put_all.Given as goal
 
 -- the frames so far were put
-abbrev pub invariant-loop-i : goal.invariant-loop-i
-invariant-loop-i g l = AfterPuts (map (written l.size.heads) (map frame_of (take l.i l.puts.all))) (g.L.Link.waits l.initial.link) (g.L.Link.waits l.link)
+abbrev pub invariant-loop-frame : goal.invariant-loop-frame
+invariant-loop-frame g l = AfterPuts (map (written l.size.heads) (map frame_of (take l.frame-index l.frame-items))) (g.L.Link.waits l.initial.link) (g.L.Link.waits l.link)

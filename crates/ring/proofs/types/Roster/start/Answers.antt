@@ -4,6 +4,6 @@ use Rattle.ring.proofs.types.Roster.start.Goals as goal
 
 pub returns-in-Ok : goal.returns-in-Ok
 returns-in-Ok g c =
-    let x = c.new-in-Ok.result in
+    let x = c.new.result in
     let size : x.size.heads ≡ c.args.self.count = search rules in
-    started_lawful x _ c.args.self.count size c.new-in-Ok.ensures.heads c.clear.ensures.meaning
+    started_lawful x _ c.args.self.count size c.new.ensures.heads c.clear.ensures.meaning
