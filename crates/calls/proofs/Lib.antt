@@ -1,6 +1,5 @@
 pub mod Choosing
 pub mod Lows
-pub mod Starting
 pub mod Submitting
 pub mod Placing
 pub mod Hearing

@@ -27,7 +27,7 @@ impl Head {
         ensures size { self.new.size ≡ self.old.size }
         ensures after { done self.old.size.heads (handed result) (model self.new) [] ≡ m_hand_over self.old.size.heads (model self.old) (whole (message_meant message)) }
     {
-        if self.queue.holders(self.in_ring(), self.due) < message.name.level.needs(self.size) {
+        if self.queue.holders(self.ring(), self.due) < message.name.level.needs(self.size) {
             return Delivered::Waiting;
         }
         let stamp = self.due;

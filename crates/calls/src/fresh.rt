@@ -10,6 +10,7 @@ use store::types::{Inbox, Queue};
 
 impl Head {
     // The head of this number in a ring of this many heads.
+    #[tactic(auto, using(head::proofs::Names::highest_false), unfolding(head::specs::Head::fresh))]
     pub fn new(heads: u8, me: u8) -> Result<Head, Refusal>
         ensures { meant in_ring result ≡ head_for heads me }
     {

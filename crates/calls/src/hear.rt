@@ -59,7 +59,7 @@ impl Head {
     }
 
     // No slot names the message.
-    #[tactic(auto, using(crate::proofs::Lows::low_is, crate::proofs::Lows::near), unfolding(head::specs::Head::keep))]
+    #[tactic(auto, using(crate::proofs::Lows::low_is, crate::proofs::Lows::near, crate::proofs::Hearing::repeat_or, crate::proofs::Hearing::new_near), unfolding(head::specs::Head::keep))]
     fn take_unslotted(&mut self, message: Message) -> Result<Hearing, Refusal>
         ensures size { self.new.size ≡ self.old.size }
         ensures after { hears_before self.old.size.heads result (model self.new) ≡ hear_unslotted self.old.size.heads (model self.old) (message_meant message) }

@@ -31,7 +31,7 @@ impl Head {
         let Slot::Data { .. } = slot else {
             return Err(Refusal::NoDataSlot);
         };
-        self.queue.mark_holders(self.in_ring(), stamp, scratch);
-        Ok(self.queue.holders(self.in_ring(), stamp))
+        self.queue.mark_holders(self.ring(), stamp, scratch);
+        Ok(self.queue.holders(self.ring(), stamp))
     }
 }

@@ -8,7 +8,7 @@ use store::types::InRing;
 
 impl Head {
     // Its ring as it sees it.
-    pub(crate) fn in_ring(&self) -> InRing
+    pub(crate) fn ring(&self) -> InRing
         ensures size { result.size ≡ self.now.size }
         ensures me { result.me ≡ self.now.me }
     {

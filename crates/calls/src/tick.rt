@@ -56,7 +56,6 @@ impl Member {
     }
 
     // With a new ACK. Before the upkeep.
-    #[tactic(auto, unfolding(head::specs::Head::top))]
     fn fire_ack(&mut self, names: Names) -> Done<Ticked>
         requires room { room (model_of self.old) ≡ true }
         requires stamps { stamps_left (model_of self.old) ≡ true }
@@ -76,7 +75,6 @@ impl Member {
     }
 
     // Nothing is missing: an ACK where one is due. Before the upkeep.
-    #[tactic(auto, using(crate::proofs::Turning::some_names))]
     fn pass_token(&mut self) -> Done<Ticked>
         ensures size { self.new.head.size ≡ self.old.head.size }
         ensures after { did ticked result (settled self.old.head.size.heads (model_of self.new)) ≡ tick_token self.old.head.size.heads (model_of self.old) }
@@ -92,7 +90,7 @@ impl Member {
     }
 
     // Before the upkeep.
-    #[tactic(auto, unfolding(head::specs::Tick::tick, head::specs::Head::top))]
+    #[tactic(auto, unfolding(head::specs::Tick::tick))]
     fn count_tick(&mut self) -> Done<Ticked>
         ensures size { self.new.head.size ≡ self.old.head.size }
         ensures after { did ticked result (settled self.old.head.size.heads (model_of self.new)) ≡ m_tick self.old.head.size.heads (model_of self.old) }
@@ -103,7 +101,7 @@ impl Member {
         }
         let stamp = self.head.mark();
         if stamp < self.head.end() {
-            let to = asked(self.head.queue.top(), self.head.tries, self.head.in_ring());
+            let to = asked(self.head.queue.top(), self.head.tries, self.head.ring());
             return self.fire(Some(Frame::Nack(Nack {
                 from: self.head.me,
                 to,

@@ -12,7 +12,7 @@ use store::put::frames_there;
 
 impl Member {
     // Before the upkeep.
-    #[tactic(auto, using(crate::proofs::Turning::some_names), unfolding(head::specs::Turn::turn))]
+    #[tactic(auto, unfolding(head::specs::Turn::turn))]
     fn order(&mut self) -> Result<Done<Turned>, Refusal>
         ensures size { self.new.head.size ≡ self.old.head.size }
         ensures after { does_before self.old.head.size.heads turned result (model_of self.new) ≡ m_turn self.old.head.size.heads (model_of self.old) }

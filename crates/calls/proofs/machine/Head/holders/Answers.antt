@@ -23,6 +23,6 @@ returns c =
     let m = c.mark_holders.ensures in
     let long = c.if-scratch-lt96.false in
     record {
-      answer = ap {B = Result _ Refusal} Ok (c.holders.ensures.value (model x) (keeps x _ c.in_ring-2.ensures.me) ∙ ap (λ (v : RingSize). holders v.heads (model x) s) c.in_ring-2.ensures.size) ∙ long_answer n (model x) s c.args.scratch.now _ long e;
-      after = m.after (model x) (keeps x _ c.in_ring.ensures.me) ∙ (ap (λ (v : RingSize). cond c.mark_holders.result (marks_from v.heads (model x) (orderer (model x) s) ++ drop 96 c.args.scratch.now) c.args.scratch.now) c.in_ring.ensures.size ∙ cond-true c.mark_holders.result _ _ (m.answer ∙ le-leb 96 _ long) ∙ long_scratch n (model x) s c.args.scratch.now _ long e);
+      answer = ap {B = Result _ Refusal} Ok (c.holders.ensures.value (model x) (keeps x _ c.ring-2.ensures.me) ∙ ap (λ (v : RingSize). holders v.heads (model x) s) c.ring-2.ensures.size) ∙ long_answer n (model x) s c.args.scratch.now _ long e;
+      after = m.after (model x) (keeps x _ c.ring.ensures.me) ∙ (ap (λ (v : RingSize). cond c.mark_holders.result (marks_from v.heads (model x) (orderer (model x) s) ++ drop 96 c.args.scratch.now) c.args.scratch.now) c.ring.ensures.size ∙ cond-true c.mark_holders.result _ _ (m.answer ∙ le-leb 96 _ long) ∙ long_scratch n (model x) s c.args.scratch.now _ long e);
     }

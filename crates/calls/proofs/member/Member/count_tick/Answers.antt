@@ -15,6 +15,6 @@ returns-then-stamp-end-clause-after c =
     let w = c.wait.ensures in
     let m = c.mark-stamp.ensures in
     let e = c.end.ensures.value in
-    let ring = c.in_ring.ensures in
+    let ring = c.ring.ensures in
     let o = c.asked-to.ensures (model x) (sym ring.me) refl (sym c.top.ensures) ∙ ap (λ (v : RingSize). asked v.heads (model x)) ring.size in
     c.fire.ensures.after ∙ ((λ j. fire n (model x) (nack_frame x.me (o j) (m j) ∷ [])) ∙ sym (tick_lacks n (model x) (omega arith) (omega arith)))
