@@ -6,7 +6,7 @@ use Rattle.frames.specs.Values.{Name}
 use Rattle.head.specs.Slots.{Slot, unknown, ack, bare, whole, known, is_ack}
 use Rattle.head.specs.Deliver.{stamp_of, among, orderer, others, holders, holders_from}
 use Rattle.head.specs.Head.{Head}
-use Rattle.head.specs.Queue.{Queue, first_not, last_ack, or_else, ack_at, issuers, issuer_on, one_if}
+use Rattle.head.specs.Queue.{Queue, first_not, last_ack, issuers, issuer_on, one_if}
 use Rattle.head.proofs.Walk.{first_not_stops}
 use Rattle.store.specs.declared.types.Queue.{Queue as CQueue}
 use Rattle.store.specs.Holders.{Keeps}
@@ -39,15 +39,6 @@ module _ (x : CQueue) where
   abbrev q : Queue
   q = queue_of x.base x.slots
 
-  -- an ACK stands in the queue
-  pub ack_within : (s : ℕ) → is_ack (q s) ≡ true → s < x.base + 96
-  ack_within s e =
-      let l = x.places in
-      elim (cases_lt s (x.base + 96)) [
-        | inl h ↦ h
-        | inr h ↦ absurd (both_ways (is_ack (q s)) (ap is_ack (queue_past x.base x.slots s (omega arith))) e)
-      ]
-
   -- the first of the stamps from d on that has no ACK, or what comes after the queue
   pub skip_is : (d : ℕ) (o : Option ℕ) → MatchOption o ((u : ℕ) → d ≤ u → u < x.base + 96 → is_ack (q u) ≡ true) (λ i. (d ≤ i) × (i < x.base + 96) × (is_ack (q i) ≡ false) × ((u : ℕ) → d ≤ u → u < i → is_ack (q u) ≡ true)) → unwrap_or o (max d (x.base + 96)) ≡ first_not is_ack q (x.base + 96 - d) d
   skip_is d None h = first_not_at is_ack q (x.base + 96 - d) d (max d (x.base + 96)) (omega arith) (omega arith) (λ u a b. h u a (omega arith)) (λ l. absurd (omega arith))
@@ -67,16 +58,6 @@ module _ (x : CQueue) where
     skip_bound en h = elim (cases_lt 1000001 r) [ inl l ↦ absurd (both_ways (known (q 1000001)) (en 1000001 (omega arith)) (between 1000001 h l)) | inr l ↦ l ]
 
 -- the ACK that ordered a slot
-
-pub stamp_here : (q : Queue) (k j t : ℕ) → k ≡ suc j → is_ack (q (t + j)) ≡ true → stamp_of (last_ack q k t) ≡ Some (t + j)
-unfolding last_ack
-stamp_here q k j t e f = ap (λ n. stamp_of (last_ack q n t)) e ∙ go (q (t + j)) f
-  where
-    go : (x : Slot) → is_ack x ≡ true → stamp_of (or_else (ack_at x (t + j)) (last_ack q j t)) ≡ Some (t + j)
-    go unknown h = absurd (both_ways true (sym h) refl)
-    go (ack i ns) h = refl
-    go (bare x) h = absurd (both_ways true (sym h) refl)
-    go (whole m) h = absurd (both_ways true (sym h) refl)
 
 -- past the queue there is no ACK
 pub last_far : (x : CQueue) (k : ℕ) → last_ack (queue_of x.base x.slots) 96 x.base ≡ last_ack (queue_of x.base x.slots) (k + 96) x.base

@@ -1,5 +1,5 @@
 -- The steps of what is read off a queue, and of the frames that are put.
-use Rattle.std.proofs.Common.{◌≡◌, ℕ, zero, suc, ◌+◌, ◌%◌, ◌^◌, ◌<◌, ◌≤◌, min, Bool, true, false, cond, not, ◌||◌, eqb, leb, ltb, List, [], ◌∷◌, ◌++◌, map, length, Some, None, Option, sym, refl, ap, ◌∙◌, arith, pow_mono}
+use Rattle.std.proofs.Common.{◌≡◌, ℕ, zero, suc, ◌+◌, ◌%◌, ◌^◌, ◌<◌, ◌≤◌, min, Bool, true, false, cond, not, ◌||◌, eqb, leb, ltb, List, [], ◌∷◌, ◌++◌, map, length, Option, sym, refl, ap, ◌∙◌, arith, pow_mono}
 use Rattle.std.proofs.lemmas.List.{length-map, map-append}
 use Rattle.std.proofs.lemmas.Bool.{le-leb, lt-leb, lt-ltb, eq-eqb, ne_eqb, cond-true, cond-false}
 use Rattle.frames.specs.declared.types.Frame.{Frame as CFrame}
@@ -18,9 +18,6 @@ use Rattle.store.specs.Puts.{puts_of}
 -- an ACK, or something else, at the last of k stamps
 
 module _ (q : Queue) where
-  pub last_here : (k j t i : ℕ) (ns : List Name) → k ≡ suc j → q (t + j) ≡ ack i ns → last_ack q k t ≡ Some (record { stamp = t + j; issuer = i; names = ns })
-  unfolding last_ack
-  last_here k j t i ns e f = ap (λ n. last_ack q n t) e ∙ ap (λ x. or_else (ack_at x (t + j)) (last_ack q j t)) f
 
   pub last_before : (k j t : ℕ) → k ≡ suc j → is_ack (q (t + j)) ≡ false → last_ack q j t ≡ last_ack q k t
   unfolding last_ack
@@ -31,10 +28,6 @@ module _ (q : Queue) where
       go (ack i ns) h = let z : ◌≡◌ {A = ℕ} 0 1 = cc in absurd (omega arith)
       go (bare x) h = refl
       go (whole m) h = refl
-
-  pub last_nowhere : (t : ℕ) → last_ack q 0 t ≡ None
-  unfolding last_ack
-  last_nowhere t = refl
 
   pub busy_over : (k t : ℕ) → busy q k t 0 ≡ false
   unfolding busy

@@ -1,7 +1,7 @@
 -- Placing an ACK.
 use Rattle.std.proofs.Common.{◌≡◌, ℕ, zero, suc, ◌+◌, ◌-◌, ◌<◌, ◌≤◌, true, cond, ◌&&◌, eqb, ltb, leb, ◌⊎◌, List, [], ◌∷◌, length, map, get_or, Some, None, Option, sym, refl, ap, ◌∙◌, inl, inr, arith}
 use mathlib.Core.Path.{fun_ext}
-use Rattle.std.proofs.lemmas.Bool.{and_parts, leb-true, cases_lt, cases_eq, both_ways, eq-eqb, ne_eqb, lt-ltb, le-ltb, cond-true, cond-false}
+use Rattle.std.proofs.lemmas.Bool.{cases_lt, cases_eq, both_ways, eq-eqb, ne_eqb, lt-ltb, le-ltb, cond-true, cond-false}
 use Rattle.frames.specs.declared.types.Name.{Name as CName}
 use Rattle.frames.specs.Values.{Name, Ack}
 use Rattle.frames.specs.Types.{name_of}
@@ -11,8 +11,6 @@ use Rattle.head.specs.Head.{Head, Kept, Pending, fill_in, filled_by, numbered_in
 use Rattle.std.proofs.lemmas.List.{get_or-map, length-map}
 use Rattle.head.proofs.Slots.{nth_out}
 use Rattle.head.proofs.Names.{all_unknown_at}
-use Rattle.store.specs.declared.types.Queue.{Queue as CQueue}
-use Rattle.store.specs.Parts.{spans}
 use Rattle.store.proofs.View.{by_eq}
 use Rattle.store.proofs.Walks.{highest_grows}
 
@@ -131,7 +129,3 @@ module _ (h : Head) (a : Ack) (b : ℕ) (q : Queue) (g : ℕ → ℕ) (l : ℕ �
       let f : p ≡ (λ s k. cond (leb k (low (set_slots h a) s)) None (cond (numbered_in s k a.names) None (h.pending s k))) = ep ∙ fun_ext (λ s. fun_ext (λ k. ap (λ n. cond (leb k n) None (cond (numbered_in s k a.names) None (h.pending s k))) (placed_low s))) in
       λ j. record { me = h.me; made = h.made; base = eb j; queue = eq j; gone = eg j; pending = f j; due = h.due; ticks = 0; tries = 0 }
 
-pub spans_parts : (q : CQueue) (t k : ℕ) → spans q t k ≡ true → (q.base ≤ t) × (t + k ≤ q.base + 95)
-spans_parts q t k e =
-    let p : (leb q.base t ≡ true) × (leb (t + k) (q.base + 95) ≡ true) = and_parts (leb q.base t) (leb (t + k) (q.base + 95)) e in
-    (leb-true q.base t p.0, leb-true (t + k) (q.base + 95) p.1)

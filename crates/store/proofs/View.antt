@@ -6,10 +6,8 @@ use Rattle.std.proofs.lemmas.Bool.{cases_lt, cases_eq, eq-eqb, eqb-true, ne_eqb,
 use Rattle.frames.specs.declared.types.Name.{Name as CName}
 use Rattle.frames.specs.declared.table.Table.{Table}
 use Rattle.frames.specs.declared.types.Body.{Body}
-use Rattle.frames.specs.Values.{Name}
 use Rattle.frames.specs.Types.{name_of}
 use Rattle.head.specs.Slots.{unknown, known, is_ack, named}
-use Rattle.head.specs.Queue.{names_it}
 use Rattle.store.specs.declared.types.Slot.{Slot as CSlot}
 use Rattle.store.specs.declared.types.Slot.TheVariants.{Unknown, Ack as CAck, Data}
 use Rattle.store.specs.declared.types.Kept.{Kept as CKept}
@@ -201,7 +199,3 @@ pub data_named : (x : CName) (o : Option Body) → named (data_of x o) ≡ Some 
 data_named x None = refl
 data_named x (Some b) = refl
 
-pub not_named : (n : Name) (s : CSlot) → ((x : CName) (o : Option Body) → s ≡ Data x o → ⊥) → names_it n (named (slot_of s)) ≡ false
-not_named n Unknown e = refl
-not_named n (CAck i ns) e = refl
-not_named n (Data x o) e = absurd (e x o refl)

@@ -1,31 +1,11 @@
 -- The steps of the walks over a queue.
-use Rattle.std.proofs.Common.{◌≡◌, ℕ, zero, suc, ◌+◌, ◌-◌, ◌<◌, ◌≤◌, max, Bool, true, false, cond, not, ◌&&◌, eqb, Some, None, Option, sym, refl, ap, ◌∙◌, subst, inl, inr, add-zero, add-suc, suc-add, zero-add, arith}
-use Rattle.std.proofs.lemmas.Bool.{cases_Bool, both_ways}
+use Rattle.std.proofs.Common.{◌≡◌, ℕ, zero, suc, ◌+◌, ◌-◌, ◌<◌, ◌≤◌, max, Bool, true, false, cond, eqb, Some, None, Option, sym, refl, ap, ◌∙◌, subst, inl, inr, add-zero, add-suc, suc-add, zero-add, arith}
+use Rattle.std.proofs.lemmas.Bool.{cases_Bool}
 use Rattle.frames.specs.Values.{Name}
-use Rattle.head.specs.Slots.{Slot, unknown, ack, bare, whole, known, named, is_ack}
-use Rattle.head.proofs.Walk.{acks_suc}
+use Rattle.head.specs.Slots.{Slot, known, named}
 use Rattle.head.proofs.Names.{highest_true, highest_false, highest_zero}
 use Rattle.head.proofs.Rising.{highest_from}
-use Rattle.head.specs.Queue.{Queue, first_not, past_last, highest, raise, all_unknown, names_it, place_of, acks, one_if}
-
--- a walk over N places from b on, at its place i
-module _ {Y : Type 0} (F : ℕ → ℕ → Y) (N b i : ℕ) where
-  pub walk_more : i < N → ((k : ℕ) → F (suc k) (b + i) ≡ F k (suc (b + i))) → F (N - (i + 1)) (b + (i + 1)) ≡ F (N - i) (b + i)
-  walk_more h s =
-      let e : b + (i + 1) ≡ suc (b + i) = omega arith in
-      let f : N - i ≡ suc (N - (i + 1)) = omega arith in
-      ap (F (N - (i + 1))) e ∙ (sym (s (N - (i + 1))) ∙ sym (ap (λ k. F k (b + i)) f))
-
-  pub walk_stop : {y : Y} → i < N → ((k : ℕ) → F (suc k) (b + i) ≡ y) → y ≡ F (N - i) (b + i)
-  walk_stop h s =
-      let f : N - i ≡ suc (N - (i + 1)) = omega arith in
-      sym (ap (λ k. F k (b + i)) f ∙ s (N - (i + 1)))
-
-  pub walk_end : N ≤ i → F 0 (b + i) ≡ F (N - i) (b + i)
-  walk_end h = let f : N - i ≡ 0 = omega arith in sym (ap (λ k. F k (b + i)) f)
-
-pub walk_start : {Y : Type 0} (F : ℕ → ℕ → Y) (N b : ℕ) → F (N - 0) (b + 0) ≡ F N b
-walk_start F N b = let e : b + 0 ≡ b = omega arith in let f : N - 0 ≡ N = omega arith in λ j. F (f j) (e j)
+use Rattle.head.specs.Queue.{Queue, first_not, past_last, highest, raise, names_it, place_of}
 
 module _ (p : Slot → Bool) (q : Queue) where
   pub first_more : (k t : ℕ) → p (q t) ≡ true → first_not p q (suc k) t ≡ first_not p q k (suc t)
@@ -99,12 +79,6 @@ highest_same q r s (suc k) t b f =
       | inr e ↦ highest_false q s k t b e ∙ sym (highest_false r s k t b (sym g.0 ∙ e))
     ]
 
-pub raise_unknown : (s : ℕ) (x : Slot) (b : ℕ) → known x ≡ false → raise s (named x) b ≡ b
-raise_unknown s unknown b e = refl
-raise_unknown s (ack i ns) b e = refl
-raise_unknown s (bare x) b e = absurd (both_ways true e refl)
-raise_unknown s (whole m) b e = absurd (both_ways true e refl)
-
 -- the place of a name
 
 module _ (q : Queue) (x : Name) where
@@ -119,30 +93,6 @@ module _ (q : Queue) (x : Name) where
   pub place_none : (t : ℕ) → place_of q x 0 t ≡ None
   unfolding place_of
   place_none t = refl
-
--- unknown stamps
-
-module _ (q : Queue) where
-  pub free_more : (k t : ℕ) → known (q t) ≡ false → all_unknown q (suc k) t ≡ all_unknown q k (suc t)
-  unfolding all_unknown
-  free_more k t e = ap (λ b. not b && all_unknown q k (suc t)) e
-
-  pub free_stop : (k t : ℕ) → known (q t) ≡ true → all_unknown q (suc k) t ≡ false
-  unfolding all_unknown
-  free_stop k t e = ap (λ b. not b && all_unknown q k (suc t)) e
-
-  pub free_end : (t : ℕ) → all_unknown q 0 t ≡ true
-  unfolding all_unknown
-  free_end t = refl
-
--- counting ACKs
-
-module _ (q : Queue) where
-  pub acks_step : (N b i : ℕ) (t : Bool) → i < N → is_ack (q (b + i)) ≡ t → acks q (N - i) (b + i) ≡ one_if t + acks q (N - (i + 1)) (b + (i + 1))
-  acks_step N b i t h e =
-      let f : b + (i + 1) ≡ suc (b + i) = omega arith in
-      let g : N - i ≡ suc (N - (i + 1)) = omega arith in
-      ap (λ k. acks q k (b + i)) g ∙ (acks_suc q (N - (i + 1)) (b + i) ∙ ap (λ x. one_if x + acks q (N - (i + 1)) (suc (b + i))) e ∙ ap (λ u. one_if t + acks q (N - (i + 1)) u) (sym f))
 
 -- a known front is walked first
 pub highest_split : (q : Queue) (s a k t b : ℕ) → ((u : ℕ) → t ≤ u → u < t + a → known (q u) ≡ true) → highest q s (a + k) t b ≡ highest q s k (t + a) (highest q s a t b)

@@ -1,7 +1,7 @@
 -- The steps of the calls on an inbox.
 use Rattle.std.proofs.Common.{◌≡◌, ℕ, zero, suc, ◌+◌, ◌<◌, ◌≤◌, Bool, true, false, cond, ◌&&◌, ◌||◌, eqb, ltb, leb, ◌⊎◌, List, [], ◌∷◌, length, map, get_or, drop, replicate, None, Option, sym, refl, ap, ◌∙◌, subst, inl, inr, arith}
 use mathlib.Core.Path.{fun_ext}
-use Rattle.std.proofs.lemmas.List.{at_drop_all, at_drop_more, get_or_past}
+use Rattle.std.proofs.lemmas.List.{at_drop_all, at_drop_more}
 use Rattle.std.proofs.lemmas.Bool.{both_ways, cases_Bool, cases_lt, cases_eq, lt-ltb, le-ltb, le-leb, and_from, cond-true, cond-false, and_parts, eqb-true, leb-true}
 use Rattle.std.proofs.lemmas.Bool.Decides.{nat_tests}
 use Rattle.frames.specs.declared.types.Name.{Name as CName}
@@ -19,13 +19,6 @@ none_at (suc zero) = refl
 none_at (suc (suc zero)) = refl
 none_at (suc (suc (suc zero))) = refl
 none_at (suc (suc (suc (suc j)))) = refl
-
-pub four_at : (w : List (Option CKept)) (by : ℕ) (a b c d : Option CKept) → a ≡ get_or w by None → b ≡ get_or w (by + 1) None → c ≡ get_or w (by + 2) None → d ≡ get_or w (by + 3) None → length w ≡ 4 → (j : ℕ) → get_or (a ∷ b ∷ c ∷ d ∷ []) j None ≡ get_or w (by + j) None
-four_at w by a b c d p q r s l zero = let e : by ≡ by + 0 = omega arith in p ∙ ap (λ k. get_or w k None) e
-four_at w by a b c d p q r s l (suc zero) = q
-four_at w by a b c d p q r s l (suc (suc zero)) = r
-four_at w by a b c d p q r s l (suc (suc (suc zero))) = s
-four_at w by a b c d p q r s l (suc (suc (suc (suc j)))) = sym (get_or_past w (by + suc (suc (suc (suc j)))) None (omega arith))
 
 -- outside the window there is nothing
 pub outside : (low : List ℕ) (ws : List Window) (s k : ℕ) → (k ≤ get_or low s 0) ⊎ (get_or low s 0 + 4 < k) → pending_of low ws s k ≡ None
