@@ -5,7 +5,8 @@ ghost use Rattle.calls.specs.Unmade.{NoneUnmade};
 
 use crate::machine::Head;
 
-// Its calls keep both facts: all that it keeps is in its ranges, and no own number above made is pending.
+// Its calls keep both facts: all that it keeps is in its ranges, and no own number above made is pending. A type of its own
+// around a Head, with the same calls: who makes a Head from its fields is not asked for these.
 #[derive(Clone, Copy)]
 pub struct Member {
     pub head: Head,

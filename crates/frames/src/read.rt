@@ -48,6 +48,8 @@ fn ranged(size: RingSize, frame: Frame) -> Result<Frame, Refusal>
     }
 }
 
+// rest: what the unused places of a frame hold. Each reader says it, and no type does: a frame that holds other bytes there is
+// the same frame, and may be written.
 fn read_nack(size: RingSize, bytes: &[u8]) -> Result<Frame, Refusal>
     ensures answer { meant frame_of result ≡ nack_by_rule size.heads bytes.now }
     ensures rest { IfOk result FrameRest }

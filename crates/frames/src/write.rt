@@ -56,6 +56,7 @@ impl Nack {
     }
 }
 
+// That the frame is in range is asked and held by no type: it goes by the ring's size, and a frame that is not must be refused.
 fn write_front(size: RingSize, frame: Frame, out: &mut [u8])
     requires room { length (written size.heads (frame_of frame)) ≤ length out.old }
     requires suits { frame_ok size.heads (frame_of frame) ≡ true }

@@ -13,7 +13,8 @@ use frames::table::Table;
 use frames::types::{Packet, RingSize};
 
 impl HeadSet {
-    // The first heads, as many as are asked for.
+    // The first heads, as many as are asked for. A bare count and no RingSize, here and in add: before the first clear there are
+    // no heads.
     fn first(heads: usize) -> HeadSet
         requires { heads ≤ 8 }
         ensures { heads_of result ≡ range_with_len 0 heads }

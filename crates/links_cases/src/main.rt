@@ -33,7 +33,7 @@ fn clear<L: Link>(link: &mut L, heads: u8) {
     }
 }
 
-// What a take or a pass answers; a put and a clear answer nothing.
+// What a take or a pass answers; a put and a clear answer nothing. The step goes by the script's word.
 fn call<L: Link>(link: &mut L, word: &str, numbers: &[u8]) -> Option<Packet> {
     match (word, numbers) {
         ("clear", [heads, ..]) => {

@@ -18,7 +18,6 @@ use Rattle.store.specs.Puts.{puts_of}
 -- an ACK, or something else, at the last of k stamps
 
 module _ (q : Queue) where
-
   pub last_before : (k j t : ℕ) → k ≡ suc j → is_ack (q (t + j)) ≡ false → last_ack q j t ≡ last_ack q k t
   unfolding last_ack
   last_before k j t e f = go (q (t + j)) f ∙ ap (λ n. last_ack q n t) (sym e)

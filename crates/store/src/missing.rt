@@ -19,6 +19,7 @@ impl Queue {
         ensures bound { result ≤ 96 }
         ensures after { list.new ≡ lacking self.now ++ drop result list.old }
     {
+        // Counted by hand: what is listed goes to the front of the caller's memory.
         let mut count = 0;
         for (i, slot) in self.slots[..self.places_known()].iter().enumerate() {
             if !slot.is_full() {

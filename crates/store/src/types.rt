@@ -25,7 +25,8 @@ pub struct Window {
     ghost places: { length kept ≡ 4 },
 }
 
-// The slots for the stamps base to base + 95; of each source, the highest number of a slot given up.
+// The slots for the stamps base to base + 95; of each source, the highest number of a slot given up. A step that leaves base or
+// gone as it was says so in a clause: a fact about a queue before and after fits no type.
 #[derive(Clone, Copy)]
 pub struct Queue {
     pub base: u32,
@@ -36,7 +37,8 @@ pub struct Queue {
     ghost small: { base ≤ 1000001 },
 }
 
-// Of each source, the highest number of the known front, and what is pending after it.
+// Of each source, the highest number of the known front, and what is pending after it. Two arrays and no array of pairs: low is
+// raised from the numbers of the queue and compared with them, which are an array by source too.
 #[derive(Clone, Copy)]
 pub struct Inbox {
     pub low: [u32; 8],
