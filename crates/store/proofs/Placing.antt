@@ -128,4 +128,3 @@ module _ (h : Head) (a : Ack) (b : ℕ) (q : Queue) (g : ℕ → ℕ) (l : ℕ �
   placed_is p ep =
       let f : p ≡ (λ s k. cond (leb k (low (set_slots h a) s)) None (cond (numbered_in s k a.names) None (h.pending s k))) = ep ∙ fun_ext (λ s. fun_ext (λ k. ap (λ n. cond (leb k n) None (cond (numbered_in s k a.names) None (h.pending s k))) (placed_low s))) in
       λ j. record { me = h.me; made = h.made; base = eb j; queue = eq j; gone = eg j; pending = f j; due = h.due; ticks = 0; tries = 0 }
-

@@ -198,4 +198,3 @@ data_known x (Some b) = refl
 pub data_named : (x : CName) (o : Option Body) → named (data_of x o) ≡ Some (name_of x)
 data_named x None = refl
 data_named x (Some b) = refl
-
