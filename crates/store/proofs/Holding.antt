@@ -132,7 +132,7 @@ filter_more p (suc n) a =
 heads_more : (p : ℕ → Bool) (n : ℕ) → length (filter p (range_with_len 0 (suc n))) ≡ one_if (p n) + length (filter p (range_with_len 0 n))
 heads_more p n = let e : 0 + n ≡ n = omega arith in filter_more p n 0 ∙ ap (λ k. one_if (p k) + length (filter p (range_with_len 0 n))) e
 
-one_if-le : (b : Bool) → one_if b ≤ 1
+pub one_if-le : (b : Bool) → one_if b ≤ 1
 one_if-le true = omega arith
 one_if-le false = omega arith
 

@@ -12,3 +12,4 @@ pub mod Holding
 pub mod Fronts
 pub mod Marking
 pub mod Lacking
+pub mod Ending

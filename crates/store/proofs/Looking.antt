@@ -1,18 +1,17 @@
 -- The steps of what is read off a queue, and of the frames that are put.
-use Rattle.std.proofs.Common.{◌≡◌, ℕ, zero, suc, ◌+◌, ◌%◌, ◌^◌, ◌<◌, ◌≤◌, min, Bool, true, false, cond, not, ◌||◌, eqb, leb, ltb, List, [], ◌∷◌, ◌++◌, map, length, Option, sym, refl, ap, ◌∙◌, arith, pow_mono}
+use Rattle.std.proofs.Common.{◌≡◌, ℕ, zero, suc, ◌+◌, ◌^◌, ◌<◌, ◌≤◌, min, Bool, true, false, cond, not, ◌||◌, eqb, ltb, List, [], ◌∷◌, ◌++◌, map, length, sym, refl, ap, ◌∙◌, arith, pow_mono}
 use Rattle.std.proofs.lemmas.List.{length-map, map-append}
-use Rattle.std.proofs.lemmas.Bool.{le-leb, lt-leb, lt-ltb, eq-eqb, ne_eqb, cond-true, cond-false}
+use Rattle.std.proofs.lemmas.Bool.{lt-ltb, eq-eqb, ne_eqb, cond-true}
 use Rattle.frames.specs.declared.types.Frame.{Frame as CFrame}
 use Rattle.frames.specs.declared.table.Table.{Table}
 use Rattle.frames.proofs.Naming.{length-items, length-names_of}
 use Rattle.frames.specs.Tables.{items}
 use Rattle.frames.specs.declared.types.Name.{Name as CName}
 use Rattle.frames.specs.Types.{frame_of, names_of}
-use Rattle.frames.specs.Values.{Name, Ack, one, everyone}
-use Rattle.head.specs.Head.{Head, top}
+use Rattle.frames.specs.Values.{Name}
 use Rattle.head.specs.Slots.{Slot, unknown, ack, bare, whole, is_ack}
 use Rattle.head.specs.Queue.{Queue, ack_at, or_else, last_ack}
-use Rattle.head.specs.Tick.{another, asked, busy, issuer_or}
+use Rattle.head.specs.Tick.{busy}
 use Rattle.store.specs.Puts.{puts_of}
 
 -- an ACK, or something else, at the last of k stamps
@@ -70,21 +69,6 @@ module _ (q : Queue) where
 
 pub wait_stays : (r : ℕ) → 5 ≤ r → 32 ≡ min (2 ^ r) 32
 wait_stays r h = let l : 2 ^ 5 ≤ 2 ^ r = pow_mono h in omega arith
-
--- whom a NACK asks
-
-module _ (n : ℕ) (h : Head) (a : Option Ack) (me r : ℕ) (mine : h.me ≡ me) (tried : h.tries ≡ r) (last : top h ≡ a) where
-  asked_is : asked n h ≡ cond (leb n r) everyone (one (another n me ((issuer_or 0 a + r) % n)))
-  asked_is =
-      ap (λ t. cond (leb n t) everyone (one (another n h.me ((issuer_or 0 (top h) + t) % n)))) tried
-      ∙ (ap (λ m. cond (leb n r) everyone (one (another n m ((issuer_or 0 (top h) + r) % n)))) mine
-      ∙ ap (λ (x : Option Ack). cond (leb n r) everyone (one (another n me ((issuer_or 0 x + r) % n)))) last)
-
-  pub asked_all : n ≤ r → everyone ≡ asked n h
-  asked_all l = sym (asked_is ∙ cond-true (leb n r) everyone (one (another n me ((issuer_or 0 a + r) % n))) (le-leb n r l))
-
-  pub asked_one : (i g : ℕ) → r < n → i ≡ issuer_or 0 a → g ≡ another n me ((i + r) % n) → one g ≡ asked n h
-  asked_one i g l e f = ap one (f ∙ ap (λ j. another n me ((j + r) % n)) e) ∙ sym (asked_is ∙ cond-false (leb n r) everyone (one (another n me ((issuer_or 0 a + r) % n))) (lt-leb n r l))
 
 -- the frames of one call
 

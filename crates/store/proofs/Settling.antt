@@ -9,13 +9,12 @@ use Rattle.frames.specs.Types.{names_of}
 use Rattle.head.specs.Slots.{Slot, unknown, ack, bare, whole, known, named}
 use Rattle.head.specs.Queue.{Queue, acks, highest, raise}
 use Rattle.head.specs.Head.{Head}
-use Rattle.head.specs.Upkeep.{ready, give_up, give_up_one}
+use Rattle.head.specs.Upkeep.{ready, give_up_one}
 use Rattle.store.specs.declared.types.Slot.{Slot as CSlot}
 use Rattle.store.specs.declared.types.Slot.TheVariants.{Unknown, Ack as CAck, Data}
 use Rattle.store.specs.declared.types.Queue.{Queue as CQueue}
 use Rattle.store.specs.Parts.{slot_of, queue_of, table_of, low_of, part, Passed, Ends, Own}
 use Rattle.frames.proofs.Naming.{length-names_of}
-use Rattle.head.proofs.Upkeep.{give_up_some, give_up_none}
 use Rattle.store.proofs.View.{queue_in, queue_past}
 use Rattle.store.proofs.Walks.{highest_same, highest_forward, highest_cap}
 
@@ -74,16 +73,6 @@ module _ (x y : CQueue) (m : ℕ) (f : Forward x y m) where
       go : (b : Bool) (s : Slot) → raise g (named s) k ≡ k → raise g (named (cond b unknown s)) k ≡ k
       go true s e = refl
       go false s e = e
-
-module _ (n due : ℕ) (x : CQueue) (i : ℕ) (h : Head) (z : Head) (lt : i < 96) (inv : give_up (96 - i) n (part h due x) ≡ z) where
-  turns : 96 - i ≡ suc (96 - (i + 1))
-  turns = omega arith
-
-  pub give_more : (y : CQueue) (m : ℕ) → Forward x y m → Some m ≡ ready n (part h due x) (queue_of x.base x.slots x.base) → give_up (96 - (i + 1)) n (part h due y) ≡ z
-  give_more y m f e = ap (give_up (96 - (i + 1)) n) (forward_is x y m f h due) ∙ (sym (ap (λ k. give_up k n (part h due x)) turns ∙ give_up_some (96 - (i + 1)) n m (part h due x) (sym e)) ∙ inv)
-
-  pub give_stop : None ≡ ready n (part h due x) (queue_of x.base x.slots x.base) → part h due x ≡ z
-  give_stop e = sym (ap (λ k. give_up k n (part h due x)) turns ∙ give_up_none (96 - (i + 1)) n (part h due x) (sym e)) ∙ inv
 
 -- the front alone has the same names
 pub front_same : (b : ℕ) (ss : List CSlot) (k s g : ℕ) → k ≤ length ss → highest (queue_of b (take k ss)) s (length (take k ss)) b g ≡ highest (queue_of b ss) s k b g

@@ -6,13 +6,13 @@ use Rattle.head.specs.Questions.{counts}
 use Rattle.head.specs.Queue.{issuer_on}
 use Rattle.head.specs.Slots.{Slot, unknown, ack, bare, whole}
 use Rattle.store.specs.declared.types.Queue.{Queue as CQueue}
-use Rattle.store.specs.Parts.{queue_of}
+use Rattle.store.specs.Parts.{slots_of}
 
 -- the head h of the model has this number and this queue
 pub record Keeps (h : Head) (me : ℕ) (q : CQueue) : Type 0 where
   pub number : h.me ≡ me
   pub base : h.base ≡ q.base
-  pub queue : h.queue ≡ queue_of q.base q.slots
+  pub queue : h.queue ≡ slots_of q
 
 -- the table says of each of eight heads whether it is among the issuers
 abbrev pub Tells : List Bool → List ℕ → Type 0

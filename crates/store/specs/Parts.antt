@@ -86,7 +86,7 @@ with_body b (whole m) = whole (record { name = m.name; body = b })
 
 -- low, as the model has it
 abbrev pub low_of : CQueue → ℕ → ℕ
-low_of q s = highest (queue_of q.base q.slots) s 96 q.base (table_of q.gone s)
+low_of q s = highest (slots_of q) s 96 q.base (table_of q.gone s)
 
 -- a stamp and the k after it stand in the queue
 abbrev pub spans : CQueue → ℕ → ℕ → Bool
@@ -94,19 +94,19 @@ spans q t k = nat_le q.base t && nat_le (t + k) (q.base + 95)
 
 -- a head whose queue and due are these
 abbrev pub part : Head → ℕ → CQueue → Head
-part h d q = record { me = h.me; made = h.made; base = q.base; queue = queue_of q.base q.slots; gone = table_of q.gone; pending = h.pending; due = d; ticks = h.ticks; tries = h.tries }
+part h d q = record { me = h.me; made = h.made; base = q.base; queue = slots_of q; gone = table_of q.gone; pending = h.pending; due = d; ticks = h.ticks; tries = h.tries }
 
 -- all before a stamp is known
 abbrev pub Passed : CQueue → ℕ → Type 0
-Passed q d = (u : ℕ) → q.base ≤ u → u < d → known (queue_of q.base q.slots u) ≡ true
+Passed q d = (u : ℕ) → q.base ≤ u → u < d → known (slots_of q u) ≡ true
 
 -- no stamp past the last is known
 abbrev pub Ends : CQueue → Type 0
-Ends q = (u : ℕ) → 1000000 < u → known (queue_of q.base q.slots u) ≡ false
+Ends q = (u : ℕ) → 1000000 < u → known (slots_of q u) ≡ false
 
 -- no number of the source g that the queue names, or gave up, is above k
 abbrev pub Own : ℕ → ℕ → CQueue → Type 0
-Own g k q = ((u : ℕ) → raise g (named (queue_of q.base q.slots u)) k ≡ k) × (table_of q.gone g ≤ k)
+Own g k q = ((u : ℕ) → raise g (named (slots_of q u)) k ≡ k) × (table_of q.gone g ≤ k)
 
 -- no number of the source g that an ACK names is above k
 abbrev pub OwnAck : ℕ → ℕ → Ack → Type 0

@@ -93,11 +93,8 @@ impl Queue {
         if due > 1_000_001 {
             return false;
         }
-        for _i in 0..96usize {
-            match self.spent(n, due) {
-                None => return true,
-                Some(m) => self.forward(m),
-            }
+        while let Some(m) = self.spent(n, due) {
+            self.forward(m);
         }
         true
     }

@@ -1,17 +1,11 @@
-use Rattle.std.proofs.Common.{◌≡◌, ◌+◌, ◌-◌, List, ℕ, length, sym, ap, ◌∙◌, arith}
+use Rattle.std.proofs.Common.{List, ℕ, length, sym, ap, ◌∙◌, arith}
 use Rattle.head.specs.Slots.{Slot, known, named}
-use Rattle.head.specs.Queue.{highest, raise}
+use Rattle.head.specs.Queue.{raise}
 use Rattle.store.specs.Parts.{queue_of, slot_of, table_of}
 use Rattle.store.proofs.View.{data_known, data_named, queue_item}
 use Rattle.store.proofs.Walks.{climb_more, climb_stop, climb_end}
 use Rattle.store.proofs.settle.climb.Goals as goal
 use Rattle.store.proofs.settle.climb.Goals.{in-Ack, in-Data}
-
-pub loop-slot-init : goal.loop-slot-init
-loop-slot-init c = λ b s.
-    let e : length c.args.slots.now - 0 ≡ length c.args.slots.now = omega arith in
-    let f : b + 0 ≡ b = omega arith in
-    λ j. highest (queue_of b c.args.slots.now) s (e j) (f j) (table_of c.args.low.now s)
 
 pub returns-in-Unknown : goal.returns-in-Unknown
 returns-in-Unknown c = λ b s.
