@@ -167,7 +167,7 @@ impl Head {
         Ok(done)
     }
 
-    // No packet came.
+    // No packet came. With an Option of bytes it would be one call with hear, no plainer: only bytes can be refused.
     #[tactic(auto, unfolding(head::specs::Hear::hear))]
     pub fn hear_nothing(&mut self) -> Done<Hearing>
         ensures size { self.new.size ≡ self.old.size }

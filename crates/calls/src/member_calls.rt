@@ -1,4 +1,5 @@
 // A member of a ring: making it, and the calls that are those of its head.
+// They stand twice, since a bare head need not stay a member: its calls ask less of it, and these keep what a member is known by.
 ghost use Rattle.std.specs.Prelude.{◌≡◌, Some, None};
 ghost use Rattle.frames.specs.Types.{meant};
 ghost use Rattle.head.specs.Submit.{submit as m_submit};
