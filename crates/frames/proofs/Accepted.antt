@@ -3,7 +3,7 @@ use Rattle.std.proofs.Common.{◌≡◌, ℕ, ◌+◌, ◌*◌, [], ◌∷◌, t
 use Rattle.std.specs.Simd.{first_chunks}
 use Rattle.std.proofs.lemmas.List.{get_or-take}
 use Rattle.std.proofs.lemmas.List.Elements.{All-from_get_or}
-use Rattle.std.proofs.lemmas.Bool.{and_left, and_right, cond-true, cond-false, ne_eqb, eq-eqb, le-leb}
+use Rattle.std.proofs.lemmas.Bool.{and_left, cond-true, cond-false, ne_eqb, eq-eqb, le-leb}
 use Rattle.std.proofs.lemmas.Bool.Decides.{nat_tests}
 use Rattle.frames.specs.declared.refusal.Refusal.{Refusal}
 use Rattle.frames.specs.declared.refusal.Refusal.TheVariants.{NotAFrame, FieldOutOfRange, BadBodyLength}
@@ -95,11 +95,6 @@ pub data_name_fails : (n : ℕ) (bs : List ℕ) (d : Refusal) → counted 1 bs �
 data_name_fails n bs d c e =
     let p = failed (name_ok n (name_in (drop 1 bs))) _ d FieldOutOfRange e in
     ap Err p.1 ∙ ranged_fails n (counted 1 bs) true (data_in bs) c (and_left (name_ok n (name_in (drop 1 bs))) (body_length_ok (length (drop 8 bs))) p.0)
-
-pub data_body_fails : (n : ℕ) (bs : List ℕ) (d : Refusal) → counted 1 bs ≡ true → Err d ≡ body_for (drop 8 bs) → Err FieldOutOfRange ≡ read_data n bs
-data_body_fails n bs d c e =
-    let p = failed (body_length_ok (length (drop 8 bs))) _ d BadBodyLength e in
-    ranged_fails n (counted 1 bs) true (data_in bs) c (and_right (name_ok n (name_in (drop 1 bs))) (body_length_ok (length (drop 8 bs))) p.0)
 
 pub data_goes : (n : ℕ) (bs : List ℕ) (x : Name) (b : List ℕ) → counted 1 bs ≡ true → Ok x ≡ name_for n (name_in (drop 1 bs)) → Ok b ≡ body_for (drop 8 bs) → Ok (data_frame (record { name = x; body = b })) ≡ read_data n bs
 data_goes n bs x b c e g =

@@ -42,12 +42,6 @@ names_step d o o' ns i z h k e f =
     let g = paste-paste d 8 (flat_map name_bytes (take i ns)) (name_bytes (get_or ns i z)) (6 * i) 6 t refl k in
     f ∙ rw (e, take_more ns i z h, ← j, mul-add) g
 
--- what was written at the front is read off it again
-pub front_again : (a o bs : List ℕ) → o ≡ paste a 0 bs (length bs) → take (length bs) o ≡ bs
-front_again a o bs w =
-    let p = paste_first a bs (length bs) refl in
-    rw (w, p) (take_at bs (drop (0 + length bs) a) (length bs) refl)
-
 -- there is room, and the fields are in range
 pub write_goes : (n : ℕ) (f : Frame) (len room : ℕ) → len ≡ length (written n f) → len ≤ room → frame_ok n f ≡ true → Ok len ≡ write_answer n f room
 write_goes n f len room l h ok =

@@ -1,10 +1,8 @@
 -- Names and bodies of the code, by how many there are.
 use Rattle.std.proofs.Common.{◌≡◌, ℕ, ◌+◌, ◌-◌, ◌<◌, Bool, true, false, cond, List, map, length, get_or, drop, set, replicate, sym, ap, ◌∙◌, arith}
 use Rattle.std.proofs.lemmas.List.{length-take-le, length-map, get_or-map, drop-set-lt, drop-drop, drop-map, drop-replicate}
-use Rattle.std.proofs.lemmas.Bool.Decides.{nat_tests}
 use Rattle.frames.specs.declared.table.Table.{Table}
 use Rattle.frames.specs.declared.types.Name.{Name as CName}
-use Rattle.frames.specs.Values.{ack_frame, frame_ok}
 use Rattle.frames.specs.Tables.{items}
 use Rattle.frames.specs.Types.{name_of, names_of, spare, NamesRest}
 
@@ -16,9 +14,6 @@ length-items t =
 
 pub length-names_of : (ns : Table CName 4) → length (names_of ns) ≡ ns.count
 length-names_of ns = length-map (items ns) name_of ∙ length-items ns
-
-pub issuer_small : (n t i : ℕ) (ns : Table CName 4) → frame_ok n (ack_frame (record { stamp = t; issuer = i; names = names_of ns })) ≡ true → i < n
-issuer_small n t i ns e = grind (arith, nat_tests)
 
 -- the places that are left after one more name
 rest_more : (ns : List CName) (k : ℕ) (x : CName) → map name_of (drop k ns) ≡ replicate (4 - k) spare → map name_of (drop (k + 1) (set ns k x)) ≡ replicate (4 - (k + 1)) spare

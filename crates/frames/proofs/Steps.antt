@@ -1,9 +1,9 @@
 -- The steps of the loop that reads names.
-use Rattle.std.proofs.Common.{◌≡◌, ℕ, zero, suc, ◌+◌, ◌<◌, ◌≤◌, Bool, true, false, cond, List, [], ◌∷◌, ◌++◌, map, length, get_or, take, drop, Ok, Err, sym, refl, ap, ◌∙◌, arith}
+use Rattle.std.proofs.Common.{◌≡◌, ℕ, zero, suc, ◌+◌, ◌<◌, Bool, true, false, cond, List, [], ◌∷◌, ◌++◌, map, length, get_or, take, drop, Ok, Err, sym, refl, ap, ◌∙◌, arith}
 use Rattle.std.specs.Simd.{first_chunks}
-use Rattle.std.proofs.lemmas.List.{take_more, take_all}
+use Rattle.std.proofs.lemmas.List.{take_more}
 use Rattle.std.proofs.lemmas.List.Folds.{list_all_at, list_all_more}
-use Rattle.std.proofs.lemmas.Bool.{and_from, cond-false, cond-true}
+use Rattle.std.proofs.lemmas.Bool.{and_from, cond-false}
 use Rattle.frames.specs.declared.refusal.Refusal.{Refusal}
 use Rattle.frames.specs.declared.refusal.Refusal.TheVariants.{FieldOutOfRange}
 use Rattle.frames.specs.Made.{name_for, names_for}
@@ -53,8 +53,3 @@ read_more n i xs ys x z h e ok r =
       rw (e, p.1) (sym (take_more xs i z h)),
       list_all_more (name_ok n) xs i z h ∙ and_from _ _ ok p.0,
     )
-
-pub read_ends : (n i : ℕ) (xs ys : List Name) → length xs ≤ i → ys ≡ take i xs → names_ok n (take i xs) ≡ true → Ok ys ≡ names_for n xs
-read_ends n i xs ys h e ok =
-    let a : take i xs ≡ xs = take_all i xs h in
-    rw (e, a) (sym (cond-true (names_ok n xs) (Ok xs) (Err FieldOutOfRange) (rw a at ok)))

@@ -31,7 +31,7 @@ impl Body {
     }
 }
 
-// At most 32 bytes.
+// At most 32 bytes. An impl beside that of Body and no generic one: the bounds and the refusals differ.
 impl TryFrom<&[u8]> for Packet {
     type Error = Refusal;
 

@@ -1,6 +1,6 @@
 // Sizes of rings, and levels of messages.
 ghost use Rattle.std.specs.Prelude.{◌≡◌};
-ghost use Rattle.frames.specs.Bounds.{level_ok, needs as other_heads};
+ghost use Rattle.frames.specs.Bounds.{after as next_head, level_ok, needs as other_heads};
 ghost use Rattle.frames.specs.Types.{meant, level_number};
 ghost use Rattle.frames.specs.Made.{SizeFrom, LevelFrom, LevelNamed, level_for};
 
@@ -20,6 +20,15 @@ impl TryFrom<u8> for RingSize {
             2..=8 => Ok(RingSize { heads }),
             _ => Err(Refusal::TooManyHeads),
         }
+    }
+}
+
+impl RingSize {
+    // The head after this one, round the ring.
+    pub fn after(self, head: u8) -> u8
+        ensures { result ≡ next_head self.heads head }
+    {
+        ((u16::from(head) + 1) % u16::from(self.heads)) as u8
     }
 }
 
@@ -75,7 +84,7 @@ impl Level {
         }
     }
 
-    // Its number, as it is sent.
+    // Its number, as it is sent: the case's own.
     pub fn number(self) -> u8
         ensures { result ≡ level_number self }
     {

@@ -11,6 +11,7 @@ use crate::types::{Level, Name, Names, RingSize, To};
 
 impl Name {
     // The name with these fields, where they are in range for a ring of this size.
+    // The level is the number that was sent, since one that the ring cannot meet is refused.
     pub fn new(size: RingSize, source: u8, number: u32, level: u8) -> Result<Name, Refusal>
         ensures { meant name_of result ≡ name_for size.heads (record { source = source; number = number; level = level }) }
     {

@@ -11,7 +11,7 @@ ghost use Rattle.frames.specs.Laws.{ReadsBack, WritesBack};
 use crate::refusal::Refusal;
 use crate::types::{Ack, Body, Frame, Message, Nack, Name, Names, RingSize, To};
 
-// The kinds of frames: the first byte of each.
+// The kinds of frames: the first byte of each. Constants and no enum: the reader matches them in place, and Frame is the enum.
 pub(crate) const DATA: u8 = 1;
 
 pub(crate) const ACK: u8 = 2;
@@ -96,7 +96,7 @@ fn read_ack(size: RingSize, bytes: &[u8]) -> Result<Frame, Refusal>
     if rest.len() != 6 * count as usize {
         return Err(Refusal::NotAFrame);
     }
-    if count > 4 || issuer >= size.heads || next != (issuer + 1) % size.heads {
+    if count > 4 || issuer >= size.heads || next != size.after(issuer) {
         return Err(Refusal::FieldOutOfRange);
     }
     let (places, _) = rest.as_chunks::<6>();

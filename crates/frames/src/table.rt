@@ -25,7 +25,7 @@ impl<T: Copy, const N: usize> Clone for Table<T, N> {
 impl<T: Copy, const N: usize> Copy for Table<T, N> {}
 
 impl<T: Copy, const N: usize> Table<T, N> {
-    ghost use Rattle.std.specs.Prelude.{ℕ, ◌+◌, ◌-◌, ◌<◌, [], ◌∷◌, ◌++◌, drop, if◌then◌else◌, nat_lt, replicate, slice_set};
+    ghost use Rattle.std.specs.Prelude.{ℕ, ◌+◌, ◌-◌, ◌<◌, [], ◌∷◌, ◌++◌, take, drop, if◌then◌else◌, nat_lt, replicate, slice_get, slice_set};
     ghost use Rattle.std.specs.List.{remove};
     ghost use Rattle.frames.specs.Tables.{items, Filled};
 
@@ -40,18 +40,15 @@ impl<T: Copy, const N: usize> Table<T, N> {
         }
     }
 
-    // These items, and the filler in the places after them.
+    // The first N of these items, and the filler in the places after them.
     pub fn copied(filler: T, from: &[T]) -> Table<T, N>
-        requires { length from.now ≤ N }
-        ensures items { items result ≡ from.now }
+        ensures items { items result ≡ take N from.now }
         ensures rest { Filled filler result }
     {
+        let count = from.len().min(N);
         let mut places = [filler; N];
-        places[..from.len()].copy_from_slice(from);
-        Table {
-            places,
-            count: from.len(),
-        }
+        places[..count].copy_from_slice(&from[..count]);
+        Table { places, count }
     }
 
     pub fn as_slice(&self) -> &[T]
@@ -76,13 +73,18 @@ impl<T: Copy, const N: usize> Table<T, N> {
         room
     }
 
-    // Takes an item away; those after it move up.
-    pub fn remove(&mut self, i: usize)
-        requires { i < self.old.count }
-        ensures { items self.new ≡ remove (items self.old) i }
+    // Takes an item away, where there is one at this place; those after it move up.
+    pub fn remove(&mut self, i: usize) -> Option<T>
+        ensures answer { result ≡ slice_get (items self.old) i }
+        ensures after { items self.new ≡ remove (items self.old) i }
     {
+        if i >= self.count {
+            return None;
+        }
+        let item = self.places[i];
         let all = &mut self.places[..];
         all[i..self.count].rotate_left(1);
         self.count -= 1;
+        Some(item)
     }
 }

@@ -32,12 +32,11 @@ impl Message {
 
 impl Ack {
     fn write(&self, size: RingSize, out: &mut [u8])
-        requires room { 8 + 6 * self.now.names.count ≤ length out.old }
-        requires issuer { self.now.issuer < 8 }
+        requires { 8 + 6 * self.now.names.count ≤ length out.old }
         ensures { out.new ≡ front_written size.heads (ack_frame (ack_meant self.now)) out.old }
     {
         let [a, b, c, d] = self.stamp.to_be_bytes();
-        let next = (self.issuer + 1) % size.heads;
+        let next = size.after(self.issuer);
         let count = self.names.count as u8;
         put(out, 0, &[ACK, a, b, c, d, self.issuer, next, count]);
         for (i, name) in self.names.as_slice().iter().enumerate() {

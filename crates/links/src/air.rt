@@ -53,7 +53,7 @@ fn oldest(places: &[Place], head: usize) -> Option<usize>
     places.iter().position(|place| place.heads.has(head))
 }
 
-// The place of the newest one.
+// The place of the newest one: the library has a method for each direction.
 fn newest(places: &[Place], head: usize) -> Option<usize>
     ensures answer { result ≡ newest_for head (map place_of places.now) }
     ensures within { MatchOption result (⊥ → ⊥) (λ i. i < length places.now) }

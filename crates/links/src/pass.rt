@@ -13,6 +13,7 @@ pub fn pass<L: Link>(link: &mut L, packet: Packet, head: u8, tries: u8) -> Optio
     ensures left { AfterPut (packet_of packet) (L.waits link.old) (L.waits link.new) }
 {
     link.put(packet);
+    // No index: a chain whose closure changes the link says nothing of what is left on it.
     for _ in 0..tries {
         if let Some(found) = link.take(head) {
             return Some(found);

@@ -13,7 +13,7 @@ pub struct Wire {
     pub(crate) queues: Table<Queue, 8>,
 }
 
-// A set of heads: a flag for each.
+// A set of heads: a flag for each, and no length beside them.
 #[derive(Clone, Copy)]
 pub(crate) struct HeadSet {
     pub(crate) flags: [bool; 8],
@@ -46,7 +46,7 @@ pub(crate) enum Choice {
     Newest,
 }
 
-// Choice bytes, and which of them is next.
+// Choice bytes, and which of them is next: they go round, so this is a place and no length.
 #[derive(Clone, Copy)]
 pub(crate) struct Choices {
     pub(crate) bytes: [u8; 16],

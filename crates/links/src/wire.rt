@@ -11,7 +11,7 @@ use crate::types::{Queue, Wire};
 use frames::table::Table;
 use frames::types::{Packet, RingSize};
 
-// So many queues, each empty.
+// So many queues, each empty. A bare count and no RingSize: before the first clear there are none.
 fn empty_queues(heads: usize) -> Table<Queue, 8>
     requires { heads ≤ 8 }
     ensures { map queue_of (items result) ≡ clear_wire heads }
@@ -28,9 +28,7 @@ fn leave(queue: &mut Queue) -> Option<Packet>
     ensures answer { taken_of result ≡ oldest (queue_of queue.old) }
     ensures after { queue_of queue.new ≡ drop 1 (queue_of queue.old) }
 {
-    let first = *queue.as_slice().first()?;
-    queue.remove(0);
-    Some(first)
+    queue.remove(0)
 }
 
 // Joins the end of each queue; a full one stays as it is.

@@ -22,8 +22,7 @@ use types::Hoard;
 fn packet(bytes: &[u8]) -> Packet
     ensures { packet_of result ≡ take 32 bytes.now }
 {
-    let len = bytes.len().min(32);
-    Table::copied(0, &bytes[..len])
+    Table::copied(0, bytes)
 }
 
 // Clears, if the number of heads is a ring's.
@@ -33,7 +32,8 @@ fn clear<L: Link>(link: &mut L, heads: u8) {
     }
 }
 
-// What a take or a pass answers; a put and a clear answer nothing. The step goes by the script's word.
+// What a take or a pass answers; a put and a clear answer nothing. The step goes by the script's word:
+// a closure for each word would hold these arms alone.
 fn call<L: Link>(link: &mut L, word: &str, numbers: &[u8]) -> Option<Packet> {
     match (word, numbers) {
         ("clear", [heads, ..]) => {

@@ -4,8 +4,8 @@ use Rattle.frames.proofs.Fronts.{length_names}
 use Rattle.frames.proofs.Naming.{length-names_of}
 use Rattle.frames.proofs.write.write_front.Goals as goal
 
-pub write-requires-in-Ack-clause-room : goal.write-requires-in-Ack-clause-room
-write-requires-in-Ack-clause-room c =
+pub write-requires-in-Ack : goal.write-requires-in-Ack
+write-requires-in-Ack c =
     let r = rw c.in-Ack.is at c.requires.room in
     let k = length_names (names_of c.in-Ack.ack.names) in
     let l = length-names_of c.in-Ack.ack.names in

@@ -3,8 +3,8 @@ use borrow.Rule.Slice.PartMut.{post_of}
 use Rattle.frames.proofs.Tables.{front_less}
 use Rattle.frames.proofs.table.Table.remove.Goals as goal
 
-pub returns : goal.returns
-returns g c =
+pub returns-clause-after : goal.returns-clause-after
+returns-clause-after g c =
     let t = c.args.self.now in
     let l = t.filled in
     let w = t.within in
