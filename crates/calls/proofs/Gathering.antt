@@ -1,8 +1,8 @@
 -- The steps of the choice of what a head sends of its own accord.
 use Rattle.std.proofs.Common.{◌≡◌, ℕ, zero, suc, ◌+◌, ◌-◌, ◌%◌, ◌<◌, ◌≤◌, Bool, true, false, map, cond, ltb, List, [], ◌∷◌, ◌++◌, length, get_or, Some, None, Option, MatchOption, subst, ◌⊎◌, sym, refl, ap, ◌∙◌, inl, inr, append_assoc, append-nil, arith, length-append}
 use Rattle.std.proofs.Math.Nat.{mod-add-mod, mod-eq_of_lt}
-use Rattle.std.proofs.lemmas.List.{map-append, get_or_past, get_or_default}
-use Rattle.std.proofs.lemmas.Bool.{lt-ltb, cond-true, cond-false, cases_lt, both_ways, ltb-true, ltb-false}
+use Rattle.std.proofs.lemmas.List.{map-append, get_or_default}
+use Rattle.std.proofs.lemmas.Bool.{cond-true, cond-false, cases_lt, both_ways, ltb-true, ltb-false}
 use Rattle.frames.specs.Bounds.{after}
 use Rattle.frames.specs.declared.types.Name.{Name as CName}
 use Rattle.frames.specs.Types.{name_of}
@@ -12,43 +12,49 @@ use Rattle.head.specs.Hear.{found}
 use Rattle.head.specs.Tick.{lowest_own, own_message}
 use Rattle.head.specs.Turn.{run_of, gather, to_order}
 use Rattle.store.specs.declared.types.Kept.{Kept as CKept}
-use Rattle.store.specs.declared.types.Window.{Window}
+use Rattle.store.specs.declared.types.Source.{Source}
 use Rattle.store.specs.declared.types.Inbox.{Inbox}
-use Rattle.store.specs.Parts.{kept_of, blank, window_of, pending_of, table_of, inbox_of, Most}
+use Rattle.store.specs.Parts.{blank, inbox_of, kept_of, lows_in, lows_of, source_of, Most}
 use Rattle.calls.specs.declared.machine.Head.{Head as CHead}
 use Rattle.calls.specs.Choice.{kept_under, kept_at}
 use Rattle.calls.specs.Model.{model}
+use Rattle.store.proofs.View.{pending_at, window_far, window_in}
+use Rattle.calls.proofs.Lows.{low_is}
 
 -- what is pending
 
-pub kept_read : (b : Inbox) (s j : ℕ) (z : Window) (y : Option CKept) → s < 8 → j < 4 → inbox_of b s (table_of b.low s + (j + 1)) ≡ kept_of (get_or (get_or b.pending s z).kept j y)
-unfolding pending_of window_of table_of
+-- low of a source that was read
+pub low_read : (b : Inbox) (s : ℕ) (z : Source) → s < 8 → lows_of b s ≡ (get_or b.sources s z).low
+unfolding lows_in
+low_read b s z h = let f = b.all in ap (λ (x : Source). x.low) (get_or_default b.sources s blank z (omega arith))
+
+pub kept_read : (b : Inbox) (s j : ℕ) (z : Source) (y : Option CKept) → s < 8 → j < 4 → inbox_of b s (lows_of b s + (j + 1)) ≡ kept_of (get_or (get_or b.sources s z).kept j y)
 kept_read b s j z y h g =
-    let l : ℕ = get_or b.low s 0 in
-    let w : Window = get_or b.pending s blank in
-    let f = b.windows in
-    let four = w.places in
-    let i : l + (j + 1) - l - 1 ≡ j = omega arith in
-    cond-true (ltb l (l + (j + 1))) (kept_of (get_or w.kept (l + (j + 1) - l - 1) None)) None (lt-ltb l (l + (j + 1)) (omega arith))
-    ∙ (ap (λ n. kept_of (get_or w.kept n None)) i
-    ∙ (ap kept_of (get_or_default w.kept j None y (omega arith)) ∙ ap (λ (v : Window). kept_of (get_or v.kept j y)) (get_or_default b.pending s blank z (omega arith))))
+    let x : Source = get_or b.sources s z in
+    let f = b.all in
+    let four = x.places in
+    let k : ℕ = lows_of b s + (j + 1) in
+    let e = low_read b s z h in
+    pending_at b.sources s k
+    ∙ (ap (λ v. source_of v k) (get_or_default b.sources s blank z (omega arith))
+    ∙ (window_in x.low x.kept k j (omega arith) ∙ ap kept_of (get_or_default x.kept j None y (omega arith))))
 
 -- no number past the last is pending
-pub kept_small : (b : Inbox) (s j : ℕ) (z : Window) (y : Option CKept) (m : CKept) → s < 8 → j < 4 → ((g : ℕ) → Most g 500000 (inbox_of b)) → get_or (get_or b.pending s z).kept j y ≡ Some m → table_of b.low s + (j + 1) ≤ 500000
+pub kept_small : (b : Inbox) (s j : ℕ) (z : Source) (y : Option CKept) (m : CKept) → s < 8 → j < 4 → ((g : ℕ) → Most g 500000 (inbox_of b)) → get_or (get_or b.sources s z).kept j y ≡ Some m → (get_or b.sources s z).low + (j + 1) ≤ 500000
 kept_small b s j z y m h g few e =
-    let k : ℕ = table_of b.low s + (j + 1) in
+    let k : ℕ = lows_of b s + (j + 1) in
+    let l = low_read b s z h in
     elim (cases_lt 500000 k) [
       | inl past ↦ absurd (both_ways (found (inbox_of b s k)) (few s k past) (ap found (kept_read b s j z y h g ∙ ap kept_of e)))
-      | inr near ↦ near
+      | inr near ↦ omega arith
     ]
 
-pub kept_past : (b : Inbox) (s k : ℕ) → table_of b.low s + 4 < k → inbox_of b s k ≡ None
-unfolding pending_of window_of table_of
+pub kept_past : (b : Inbox) (s k : ℕ) → lows_of b s + 4 < k → inbox_of b s k ≡ None
+unfolding lows_in
 kept_past b s k h =
-    let l : ℕ = get_or b.low s 0 in
-    let w : Window = get_or b.pending s blank in
-    let f = w.places in
-    cond-true (ltb l k) (kept_of (get_or w.kept (k - l - 1) None)) None (lt-ltb l k (omega arith)) ∙ ap kept_of (get_or_past w.kept (k - l - 1) None (omega arith))
+    let x : Source = get_or b.sources s blank in
+    let four = x.places in
+    pending_at b.sources s k ∙ window_far x.low x.kept k (omega arith)
 
 -- runs
 
@@ -143,20 +149,16 @@ gather_starts n h xs l e =
     let g : (h.me + 0) % n ≡ h.me = ap (λ (s : ℕ). s % n) (omega arith) ∙ mod-eq_of_lt l in
     ap (λ (z : List Name). z ++ gather n h (n - 0) ((h.me + 0) % n) (4 - length z)) e ∙ (λ k. gather n h (f k) (g k) 4)
 
-pub low_table : (x : CHead) (s : ℕ) → low (model x) s ≡ table_of x.inbox.low s
-unfolding low
-low_table x s = sym (x.lows s)
-
 -- the source that is i steps from this head on, and the one after it
-pub gather_goes_on : (n : ℕ) (x : CHead) (l j i : ℕ) (xs ys : List Name) → l ≡ suc j → ys ≡ xs ++ run_of (inbox_of x.inbox) ((x.me + i) % n) (4 - length xs) (suc (table_of x.inbox.low ((x.me + i) % n)))
+pub gather_goes_on : (n : ℕ) (x : CHead) (l j i : ℕ) (xs ys : List Name) → l ≡ suc j → ys ≡ xs ++ run_of (inbox_of x.inbox) ((x.me + i) % n) (4 - length xs) (suc (lows_of x.inbox ((x.me + i) % n)))
     → ys ++ gather n (model x) j ((x.me + (i + 1)) % n) (4 - length ys) ≡ xs ++ gather n (model x) l ((x.me + i) % n) (4 - length xs)
 gather_goes_on n x l j i xs ys e f =
     let h : Head = model x in
     let s : ℕ = (x.me + i) % n in
     let next : (x.me + (i + 1)) % n ≡ after n s = ap (λ (k : ℕ). k % n) (omega arith) ∙ sym (mod-add-mod (x.me + i) n 1) in
-    let r : List Name = run_of (inbox_of x.inbox) s (4 - length xs) (suc (table_of x.inbox.low s)) in
+    let r : List Name = run_of (inbox_of x.inbox) s (4 - length xs) (suc (lows_of x.inbox s)) in
     let m : List Name = run_of h.pending s (4 - length xs) (suc (low h s)) in
-    let same : m ≡ r = ap (λ t. run_of (inbox_of x.inbox) s (4 - length xs) (suc t)) (low_table x s) in
+    let same : m ≡ r = ap (λ t. run_of (inbox_of x.inbox) s (4 - length xs) (suc t)) (low_is x s) in
     let t : length ys ≡ length xs + length r = ap length f ∙ length-append xs r in
     let k : 4 - length ys ≡ 4 - length xs - length r = omega arith in
     let g : gather n h l s (4 - length xs) ≡ r ++ gather n h j (after n s) (4 - length xs - length r) =
@@ -205,12 +207,12 @@ own_not h (suc b) k none =
 
 -- of the code's head
 module _ (x : CHead) where
-  pub own_found : (i : ℕ) (m : Message) → i < 4 → ((j : ℕ) → j < i → kept_at (inbox_of x.inbox) x.me (table_of x.inbox.low x.me + (j + 1)) ≡ None) → kept_at (inbox_of x.inbox) x.me (table_of x.inbox.low x.me + (i + 1)) ≡ Some m → own_message (model x) ≡ data_frame m ∷ []
+  pub own_found : (i : ℕ) (m : Message) → i < 4 → ((j : ℕ) → j < i → kept_at (inbox_of x.inbox) x.me (lows_of x.inbox x.me + (j + 1)) ≡ None) → kept_at (inbox_of x.inbox) x.me (lows_of x.inbox x.me + (i + 1)) ≡ Some m → own_message (model x) ≡ data_frame m ∷ []
   own_found i m l before here =
-      let e = low_table x x.me in
+      let e = low_is x x.me in
       own_at (model x) 4 (suc (low (model x) x.me)) i m l (λ j g. ap (kept_at (inbox_of x.inbox) x.me) (omega arith) ∙ before j g) (ap (kept_at (inbox_of x.inbox) x.me) (omega arith) ∙ here)
 
-  pub own_absent : ((j : ℕ) → j < 4 → kept_at (inbox_of x.inbox) x.me (table_of x.inbox.low x.me + (j + 1)) ≡ None) → own_message (model x) ≡ []
+  pub own_absent : ((j : ℕ) → j < 4 → kept_at (inbox_of x.inbox) x.me (lows_of x.inbox x.me + (j + 1)) ≡ None) → own_message (model x) ≡ []
   own_absent none =
-      let e = low_table x x.me in
+      let e = low_is x x.me in
       own_not (model x) 4 (suc (low (model x) x.me)) (λ j g. ap (kept_at (inbox_of x.inbox) x.me) (omega arith) ∙ none j g)

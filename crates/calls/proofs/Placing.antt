@@ -9,7 +9,7 @@ use Rattle.head.specs.Queue.{Queue, all_unknown, raise}
 use Rattle.head.specs.Head.{Kept, Pending, fill_in, filled_by, numbered_in, low, place}
 use Rattle.head.proofs.Slots.{cells_above}
 use Rattle.store.specs.declared.types.Queue.{Queue as CQueue}
-use Rattle.store.specs.Parts.{queue_of, inbox_of, table_of, ack_of, low_of, Ends, Passed, Own, OwnAck}
+use Rattle.store.specs.Parts.{queue_of, inbox_of, lows_of, table_of, ack_of, low_of, Ends, Passed, Own, OwnAck}
 use Rattle.store.proofs.Placing.{laid_keeps, placed_grows, placed_is}
 use Rattle.calls.specs.declared.machine.Head.{Head as CHead}
 use Rattle.calls.specs.Model.{model}
@@ -20,7 +20,7 @@ module _ (x : CHead) (q : CQueue) (l : List ℕ) (t i : ℕ) (ns : Table CName 4
   slots_is : queue_of q.base q.slots ≡ (λ s. over (fill_in (inbox_of x.inbox) (cells (ack_of t i ns) s)) (queue_of x.queue.base x.queue.slots s))
   slots_is = ap (λ b. queue_of b q.slots) eb ∙ es
 
-  pub code_rises : all_unknown (model x).queue (suc ns.count) t ≡ true → ((s : ℕ) → table_of x.inbox.low s ≡ low_of x.queue s) → (s : ℕ) → table_of x.inbox.low s ≤ table_of l s
+  pub code_rises : all_unknown (model x).queue (suc ns.count) t ≡ true → ((s : ℕ) → lows_of x.inbox s ≡ low_of x.queue s) → (s : ℕ) → lows_of x.inbox s ≤ table_of l s
   unfolding low
   code_rises free lows s =
       let f : all_unknown (model x).queue (suc (size (ack_of t i ns))) t ≡ true = ap (λ n. all_unknown (model x).queue (suc n) t) (length-names_of ns) ∙ free in
@@ -29,7 +29,7 @@ module _ (x : CHead) (q : CQueue) (l : List ℕ) (t i : ℕ) (ns : Table CName 4
       omega arith
 
   -- low, once it is raised
-  pub code_low : all_unknown (model x).queue (suc ns.count) t ≡ true → (s : ℕ) → max (table_of x.inbox.low s) (table_of l s) ≡ low_of q s
+  pub code_low : all_unknown (model x).queue (suc ns.count) t ≡ true → (s : ℕ) → max (lows_of x.inbox s) (table_of l s) ≡ low_of q s
   code_low free s = let g = code_rises free x.lows s in let e = el s in omega arith
 
   pub code_placed : (p : Pending) → p ≡ (λ s k. cond (leb k (table_of l s)) None (cond (numbered_in s k (names_of ns)) None (inbox_of x.inbox s k)))

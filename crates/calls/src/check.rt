@@ -21,7 +21,7 @@ impl Head {
     fn is_old(&self, name: Name) -> bool
         ensures { result ≡ nat_le name.number (low (model self.now) name.source) }
     {
-        name.number <= self.inbox.low[name.source as usize]
+        name.number <= self.inbox.low(name.source)
     }
 
     // Own, with a number that was never made.

@@ -4,7 +4,7 @@ ghost use Rattle.frames.specs.Types.{names_of};
 ghost use Rattle.head.specs.Tick.{own_message};
 ghost use Rattle.head.specs.Turn.{run_of, to_order};
 ghost use Rattle.store.specs.Look.{put_of};
-ghost use Rattle.store.specs.Parts.{inbox_of, table_of};
+ghost use Rattle.store.specs.Parts.{inbox_of, lows_of};
 ghost use Rattle.calls.specs.Choice.{kept_at, sent_of};
 ghost use Rattle.calls.specs.Members.{model_of};
 
@@ -16,13 +16,13 @@ impl Member {
     fn message(&self, source: u8, place: u32) -> Option<Message>
         requires head { source < 8 }
         requires near { place < 4 }
-        ensures { sent_of result ≡ kept_at (inbox_of self.now.head.inbox) source (table_of self.now.head.inbox.low source + (place + 1)) }
+        ensures { sent_of result ≡ kept_at (inbox_of self.now.head.inbox) source (lows_of self.now.head.inbox source + (place + 1)) }
     {
-        let window = self.head.inbox.pending[source as usize];
-        let kept = window.kept[place as usize]?;
+        let pending = self.head.inbox.sources[source as usize];
+        let kept = pending.kept[place as usize]?;
         let name = Name {
             source,
-            number: self.head.inbox.low[source as usize] + (place + 1),
+            number: pending.low + (place + 1),
             level: kept.level,
         };
         Some(Message {
@@ -34,7 +34,7 @@ impl Member {
     // Adds the run of a source that begins after its low, while there is room.
     fn add_run(&self, source: u8, names: &mut Names)
         requires head { source < 8 }
-        ensures { names_of names.new ≡ names_of names.old ++ run_of (inbox_of self.now.head.inbox) source (4 - length (names_of names.old)) (suc (table_of self.now.head.inbox.low source)) }
+        ensures { names_of names.new ≡ names_of names.old ++ run_of (inbox_of self.now.head.inbox) source (4 - length (names_of names.old)) (suc (lows_of self.now.head.inbox source)) }
     {
         for message in (0..4).map_while(|place| self.message(source, place)) {
             if !names.push(message.name) {

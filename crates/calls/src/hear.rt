@@ -65,7 +65,7 @@ impl Head {
         ensures after { hears_before self.old.size.heads result (model self.new) ≡ hear_unslotted self.old.size.heads (model self.old) (message_meant message) }
     {
         let name = message.name;
-        let low = self.inbox.low[name.source as usize];
+        let low = self.inbox.low(name.source);
         if name.number <= low {
             return Ok(Hearing::Repeat);
         }

@@ -1,6 +1,6 @@
 // A head, and what it keeps true.
 ghost use Rattle.std.specs.Prelude.{◌≡◌, ℕ, ◌+◌, ◌<◌, ◌≤◌};
-ghost use Rattle.store.specs.Parts.{table_of, low_of, Passed, Ends, Own};
+ghost use Rattle.store.specs.Parts.{lows_of, low_of, Passed, Ends, Own};
 
 use frames::types::RingSize;
 use store::types::{Inbox, Queue};
@@ -23,5 +23,5 @@ pub struct Head {
     ghost passed: { Passed queue due },
     ghost ends: { Ends queue },
     ghost own: { Own me made queue },
-    ghost lows: { (s : ℕ) → table_of inbox.low s ≡ low_of queue s },
+    ghost lows: { (s : ℕ) → lows_of inbox s ≡ low_of queue s },
 }

@@ -18,7 +18,7 @@ impl Head {
     {
         let level = Level::new(level, self.size)?;
         let body = Body::try_from(bytes)?;
-        if self.made - self.inbox.low[self.me as usize] >= 4 {
+        if self.made - self.inbox.low(self.me) >= 4 {
             return Err(Refusal::TooManyUnordered);
         }
         if self.made >= 500_000 {

@@ -1,5 +1,5 @@
 -- The laws of the model of a head: reading, setting, shifting.
-use Rattle.std.proofs.Common.{◌≡◌, ℕ, zero, suc, ◌+◌, ◌-◌, ◌<◌, ◌≤◌, Bool, true, false, cond, ◌&&◌, eqb, ltb, leb, List, ◌++◌, length, get_or, take, drop, set, replicate, Some, None, Option, sym, refl, ap, ◌∙◌, subst, inl, inr, arith, get_or-set_other, get_or-set_same}
+use Rattle.std.proofs.Common.{◌≡◌, ℕ, zero, suc, ◌+◌, ◌-◌, ◌<◌, ◌≤◌, max, Bool, true, false, cond, ◌&&◌, eqb, ltb, leb, List, ◌++◌, length, get_or, take, drop, set, replicate, Some, None, Option, sym, refl, ap, ◌∙◌, inl, inr, arith, get_or-set_other, get_or-set_same}
 use mathlib.Core.Path.{fun_ext}
 use Rattle.std.proofs.lemmas.List.{get_or_past, get_or-drop, get_or-take, get_or_default, length-drop, get_or_append_left, get_or-append_right, get_or-replicate, length-replicate}
 use Rattle.std.proofs.lemmas.Bool.{cases_lt, cases_eq, eq-eqb, eqb-true, ne_eqb, le-leb, lt-leb, lt-ltb, le-ltb, cond-true, cond-false}
@@ -8,11 +8,12 @@ use Rattle.frames.specs.declared.table.Table.{Table}
 use Rattle.frames.specs.declared.types.Body.{Body}
 use Rattle.frames.specs.Types.{name_of}
 use Rattle.head.specs.Slots.{unknown, known, is_ack, named}
+use Rattle.head.specs.Head.{Kept}
 use Rattle.store.specs.declared.types.Slot.{Slot as CSlot}
 use Rattle.store.specs.declared.types.Slot.TheVariants.{Unknown, Ack as CAck, Data}
 use Rattle.store.specs.declared.types.Kept.{Kept as CKept}
-use Rattle.store.specs.declared.types.Window.{Window}
-use Rattle.store.specs.Parts.{data_of, slot_of, kept_of, blank, queue_of, window_of, pending_of}
+use Rattle.store.specs.declared.types.Source.{Source}
+use Rattle.store.specs.Parts.{data_of, slot_of, kept_of, blank, queue_of, window_of, source_of, lows_in, pending_of}
 
 -- cases over an equation of numbers
 pub by_eq : {X : Type 0} (a b : ℕ) (x y z : X) → (a ≡ b → z ≡ x) → ((a ≡ b → ⊥) → z ≡ y) → z ≡ cond (eqb a b) x y
@@ -116,59 +117,55 @@ window_raise low by w v h i = elim (cases_lt (low + by) i) [
       window_in (low + by) v i j (omega arith) ∙ (ap kept_of (h j) ∙ (sym (window_in low w i (by + j) (omega arith)) ∙ sym (cond-false (leb i (low + by)) None (window_of low w i) (lt-leb i (low + by) l))))
 ]
 
--- all windows
+-- all sources
 
-pub pending_at : (low : List ℕ) (ws : List Window) (s k : ℕ) → pending_of low ws s k ≡ window_of (get_or low s 0) (get_or ws s blank).kept k
+pub pending_at : (xs : List Source) (s k : ℕ) → pending_of xs s k ≡ source_of (get_or xs s blank) k
 unfolding pending_of
-pending_at low ws s k = refl
+pending_at xs s k = refl
 
--- one window is put
-pub pending_put : (low : List ℕ) (ws : List Window) (s : ℕ) (w : Window) → s < length ws → (t i : ℕ) → pending_of low (set ws s w) t i ≡ cond (eqb t s) (window_of (get_or low s 0) w.kept i) (pending_of low ws t i)
+-- one source is put
+pub pending_put : (xs : List Source) (s : ℕ) (x : Source) → s < length xs → (t i : ℕ) → pending_of (set xs s x) t i ≡ cond (eqb t s) (source_of x i) (pending_of xs t i)
 unfolding pending_of
-pending_put low ws s w h t i = by_eq t s (window_of (get_or low s 0) w.kept i) (pending_of low ws t i) (pending_of low (set ws s w) t i)
-    (λ e. ap (λ n. window_of (get_or low n 0) (get_or (set ws s w) n blank).kept i) e ∙ ap (λ (v : Window). window_of (get_or low s 0) v.kept i) (get_or-set_same ws s w blank h))
-    (λ ne. ap (λ (v : Window). window_of (get_or low t 0) v.kept i) (get_or-set_other ws s t w blank ne))
+pending_put xs s x h t i = by_eq t s (source_of x i) (pending_of xs t i) (pending_of (set xs s x) t i)
+    (λ e. ap (λ n. source_of (get_or (set xs s x) n blank) i) e ∙ ap (λ y. source_of y i) (get_or-set_same xs s x blank h))
+    (λ ne. ap (λ y. source_of y i) (get_or-set_other xs s t x blank ne))
+
+-- low of one source is raised
+pub lows_raise : (xs : List Source) (s to : ℕ) (x : Source) → s < length xs → x.low ≡ max (get_or xs s blank).low to → (t : ℕ) → lows_in (set xs s x) t ≡ cond (eqb t s) (max (lows_in xs t) to) (lows_in xs t)
+unfolding lows_in
+lows_raise xs s to x h f t = by_eq t s (max (lows_in xs t) to) (lows_in xs t) (lows_in (set xs s x) t)
+    (λ e. ap (λ n. (get_or (set xs s x) n blank).low) e ∙ (ap (λ (y : Source). y.low) (get_or-set_same xs s x blank h) ∙ (f ∙ ap (λ n. max (get_or xs n blank).low to) (sym e))))
+    (λ ne. ap (λ (y : Source). y.low) (get_or-set_other xs s t x blank ne))
+
+pub lows_past : (xs : List Source) (s : ℕ) → length xs ≤ s → lows_in xs s ≡ 0
+unfolding lows_in
+lows_past xs s h = ap (λ (y : Source). y.low) (get_or_past xs s blank h)
+
+-- a source with the same low is put
+pub lows_same : (xs : List Source) (s : ℕ) (x : Source) → s < length xs → x.low ≡ (get_or xs s blank).low → lows_in (set xs s x) ≡ lows_in xs
+unfolding lows_in
+lows_same xs s x h f = fun_ext (λ t. elim (cases_eq t s) [
+  | inl e ↦ ap (λ n. (get_or (set xs s x) n blank).low) e ∙ (ap (λ (y : Source). y.low) (get_or-set_same xs s x blank h) ∙ (f ∙ ap (λ n. (get_or xs n blank).low) (sym e)))
+  | inr ne ↦ ap (λ (y : Source). y.low) (get_or-set_other xs s t x blank ne)
+])
 
 cond_and : {X : Type 0} (a b : Bool) (x y z : X) → (a ≡ true → y ≡ z) → cond a (cond b x y) z ≡ cond (a && b) x z
 cond_and true true x y z h = refl
 cond_and true false x y z h = h refl
 cond_and false b x y z h = refl
 
--- one message is kept, or cleared
-pub pending_set : (low : List ℕ) (ws : List Window) (s k j : ℕ) (w : Window) (o : Option CKept) → s < length ws → j < 4 → k ≡ get_or low s 0 + 1 + j → w.kept ≡ set (get_or ws s blank).kept j o
-    → pending_of low (set ws s w) ≡ (λ t i. cond (eqb t s && eqb i k) (kept_of o) (pending_of low ws t i))
-pending_set low ws s k j w o hs hj e f = fun_ext (λ t. fun_ext (λ i. go t i))
+-- of one source, what is pending under some numbers changes
+pub pending_change : (xs : List Source) (s : ℕ) (x : Source) (test : ℕ → Bool) (o : Option Kept) → s < length xs → ((i : ℕ) → source_of x i ≡ cond (test i) o (source_of (get_or xs s blank) i))
+    → pending_of (set xs s x) ≡ (λ t i. cond (eqb t s && test i) o (pending_of xs t i))
+pending_change xs s x test o h f = fun_ext (λ t. fun_ext (λ i. go t i))
   where
-    go : (t i : ℕ) → pending_of low (set ws s w) t i ≡ cond (eqb t s && eqb i k) (kept_of o) (pending_of low ws t i)
+    go : (t i : ℕ) → pending_of (set xs s x) t i ≡ cond (eqb t s && test i) o (pending_of xs t i)
     go t i =
-        let four = (get_or ws s blank).places in
-        let old : List (Option CKept) = (get_or ws s blank).kept in
-        let a : window_of (get_or low s 0) w.kept i ≡ cond (eqb i k) (kept_of o) (window_of (get_or low s 0) old i) = ap (λ (v : List (Option CKept)). window_of (get_or low s 0) v i) f ∙ window_set (get_or low s 0) old k j o (omega arith) e i in
-        pending_put low ws s w hs t i ∙ (ap (λ x. cond (eqb t s) x (pending_of low ws t i)) a
-        ∙ cond_and (eqb t s) (eqb i k) (kept_of o) (window_of (get_or low s 0) old i) (pending_of low ws t i) (λ y. sym (ap (λ n. pending_of low ws n i) (eqb-true t s y) ∙ pending_at low ws s i)))
+        pending_put xs s x h t i ∙ (ap (λ y. cond (eqb t s) y (pending_of xs t i)) (f i)
+        ∙ cond_and (eqb t s) (test i) o (source_of (get_or xs s blank) i) (pending_of xs t i) (λ y. sym (ap (λ n. pending_of xs n i) (eqb-true t s y) ∙ pending_at xs s i)))
 
--- low of one source grows, and its window with it
-pub pending_raise : (low : List ℕ) (ws : List Window) (s to : ℕ) (w : Window) → s < length ws → s < length low → get_or low s 0 ≤ to → ((j : ℕ) → get_or w.kept j None ≡ get_or (get_or ws s blank).kept (to - get_or low s 0 + j) None)
-    → pending_of (set low s to) (set ws s w) ≡ (λ t i. cond (eqb t s && leb i to) None (pending_of low ws t i))
-unfolding pending_of
-pending_raise low ws s to w hs hl le f = fun_ext (λ t. fun_ext (λ i. go t i))
-  where
-    same : (i : ℕ) → window_of to w.kept i ≡ cond (leb i to) None (window_of (get_or low s 0) (get_or ws s blank).kept i)
-    same i =
-        let e : get_or low s 0 + (to - get_or low s 0) ≡ to = omega arith in
-        subst (λ n. window_of n w.kept i ≡ cond (leb i n) None (window_of (get_or low s 0) (get_or ws s blank).kept i)) e (window_raise (get_or low s 0) (to - get_or low s 0) (get_or ws s blank).kept w.kept f i)
-
-    go : (t i : ℕ) → pending_of (set low s to) (set ws s w) t i ≡ cond (eqb t s && leb i to) None (pending_of low ws t i)
-    go t i =
-        let a : pending_of (set low s to) (set ws s w) t i ≡ cond (eqb t s) (window_of to w.kept i) (pending_of low ws t i) =
-        by_eq t s (window_of to w.kept i) (pending_of low ws t i) (pending_of (set low s to) (set ws s w) t i)
-        (λ e. ap (λ n. pending_of (set low s to) (set ws s w) n i) e ∙ (ap (λ n. window_of n (get_or (set ws s w) s blank).kept i) (get_or-set_same low s to 0 hl) ∙ ap (λ (v : Window). window_of to v.kept i) (get_or-set_same ws s w blank hs)))
-        (λ ne. ap (λ n. window_of n (get_or (set ws s w) t blank).kept i) (get_or-set_other low s t to 0 ne) ∙ ap (λ (v : Window). window_of (get_or low t 0) v.kept i) (get_or-set_other ws s t w blank ne)) in
-        a ∙ (ap (λ x. cond (eqb t s) x (pending_of low ws t i)) (same i)
-        ∙ cond_and (eqb t s) (leb i to) None (window_of (get_or low s 0) (get_or ws s blank).kept i) (pending_of low ws t i) (λ y. sym (ap (λ n. pending_of low ws n i) (eqb-true t s y) ∙ pending_at low ws s i)))
-
-pub pending_source : (low : List ℕ) (ws : List Window) (s k : ℕ) → length ws ≤ s → pending_of low ws s k ≡ None
-pending_source low ws s k h = pending_at low ws s k ∙ (ap (λ (w : Window). window_of (get_or low s 0) w.kept k) (get_or_past ws s blank h) ∙ empty (get_or low s 0) k)
+pub pending_source : (xs : List Source) (s k : ℕ) → length xs ≤ s → pending_of xs s k ≡ None
+pending_source xs s k h = pending_at xs s k ∙ (ap (λ x. source_of x k) (get_or_past xs s blank h) ∙ empty k)
   where
     blank_at : (j : ℕ) → kept_of (get_or blank.kept j None) ≡ None
     blank_at zero = refl
@@ -177,10 +174,10 @@ pending_source low ws s k h = pending_at low ws s k ∙ (ap (λ (w : Window). wi
     blank_at (suc (suc (suc zero))) = refl
     blank_at (suc (suc (suc (suc j)))) = refl
 
-    empty : (l i : ℕ) → window_of l blank.kept i ≡ None
-    empty l i = elim (cases_lt l i) [
-      | inr o ↦ window_low l blank.kept i o
-      | inl o ↦ window_in l blank.kept i (i - l - 1) (omega arith) ∙ blank_at (i - l - 1)
+    empty : (i : ℕ) → source_of blank i ≡ None
+    empty i = elim (cases_lt 0 i) [
+      | inr o ↦ window_low 0 blank.kept i o
+      | inl o ↦ window_in 0 blank.kept i (i - 0 - 1) (omega arith) ∙ blank_at (i - 0 - 1)
     ]
 
 -- slots by kind

@@ -1,17 +1,17 @@
 -- The steps of the calls on an inbox.
-use Rattle.std.proofs.Common.{◌≡◌, ℕ, zero, suc, ◌+◌, ◌<◌, ◌≤◌, Bool, true, false, cond, ◌&&◌, ◌||◌, eqb, ltb, leb, ◌⊎◌, List, [], ◌∷◌, length, map, get_or, drop, replicate, None, Option, sym, refl, ap, ◌∙◌, subst, inl, inr, arith}
+use Rattle.std.proofs.Common.{◌≡◌, ℕ, zero, suc, ◌+◌, ◌-◌, ◌<◌, ◌≤◌, Bool, true, false, cond, ◌&&◌, ◌||◌, eqb, ltb, leb, List, [], ◌∷◌, length, map, get_or, drop, set, replicate, None, Option, sym, refl, ap, ◌∙◌, subst, inl, inr, arith}
 use mathlib.Core.Path.{fun_ext}
 use Rattle.std.proofs.lemmas.List.{at_drop_all, at_drop_more}
-use Rattle.std.proofs.lemmas.Bool.{both_ways, cases_Bool, cases_lt, cases_eq, lt-ltb, le-ltb, le-leb, and_from, cond-true, cond-false, and_parts, eqb-true, leb-true}
+use Rattle.std.proofs.lemmas.Bool.{both_ways, cases_lt, cases_eq, lt-ltb, le-ltb, le-leb, lt-leb, and_from, cond-true, cond-false}
 use Rattle.std.proofs.lemmas.Bool.Decides.{nat_tests}
 use Rattle.frames.specs.declared.types.Name.{Name as CName}
 use Rattle.frames.specs.Values.{Name}
 use Rattle.frames.specs.Types.{name_of}
 use Rattle.head.specs.Head.{Kept, Pending, numbered_in}
 use Rattle.store.specs.declared.types.Kept.{Kept as CKept}
-use Rattle.store.specs.declared.types.Window.{Window}
-use Rattle.store.specs.Parts.{blank, in_window, pending_of, table_of, without}
-use Rattle.store.proofs.View.{pending_at, window_low, window_far}
+use Rattle.store.specs.declared.types.Source.{Source}
+use Rattle.store.specs.Parts.{blank, in_window, lows_in, pending_of, source_of, table_of, window_of, without}
+use Rattle.store.proofs.View.{pending_at, pending_change, window_low, window_far, window_raise}
 
 pub none_at : (j : ℕ) → get_or (replicate 4 None) j None ≡ (let n : Option CKept = None in n)
 none_at zero = refl
@@ -21,21 +21,21 @@ none_at (suc (suc (suc zero))) = refl
 none_at (suc (suc (suc (suc j)))) = refl
 
 -- outside the window there is nothing
-pub outside : (low : List ℕ) (ws : List Window) (s k : ℕ) → (k ≤ get_or low s 0) ⊎ (get_or low s 0 + 4 < k) → pending_of low ws s k ≡ None
-outside low ws s k (inl h) = pending_at low ws s k ∙ window_low (get_or low s 0) (get_or ws s blank).kept k h
-outside low ws s k (inr h) = let four = (get_or ws s blank).places in pending_at low ws s k ∙ window_far (get_or low s 0) (get_or ws s blank).kept k (omega arith)
-
-pub outside_window : (low : List ℕ) (ws : List Window) (s k : ℕ) → in_window (table_of low s) k ≡ false → pending_of low ws s k ≡ None
-unfolding table_of
-outside_window low ws s k e =
-    let l : ℕ = get_or low s 0 in
+pub outside : (x : Source) (k : ℕ) → in_window x.low k ≡ false → source_of x k ≡ None
+outside x k e =
+    let l : ℕ = x.low in
+    let four = x.places in
     elim (cases_lt l k) [
-      | inr h ↦ outside low ws s k (inl h)
+      | inr h ↦ window_low l x.kept k h
       | inl h ↦ elim (cases_lt (l + 4) k) [
-        | inl g ↦ outside low ws s k (inr g)
+        | inl g ↦ window_far l x.kept k (omega arith)
         | inr g ↦ absurd (both_ways (in_window l k) e (and_from (ltb l k) (leb k (l + 4)) (lt-ltb l k h) (le-leb k (l + 4) g)))
       ]
     ]
+
+pub outside_window : (xs : List Source) (s k : ℕ) → in_window (lows_in xs s) k ≡ false → pending_of xs s k ≡ None
+unfolding lows_in
+outside_window xs s k e = pending_at xs s k ∙ outside (get_or xs s blank) k e
 
 -- clearing what is not there
 pub without_none : (x : Name) (p : Pending) → p x.source x.number ≡ None → p ≡ without x p
@@ -84,21 +84,22 @@ pub clears_end : (xs : List CName) (i : ℕ) (p : Pending) → length xs ≤ i �
 clears_end xs i p h = at_drop_all (λ ys. clears (map name_of ys) p) xs i h ∙ clears_nil p
 
 -- a name with no place is cleared already
-pub cleared : (low : List ℕ) (ws : List Window) (x : Name) (p : Pending) (r : Bool) → r ≡ in_window (table_of low x.source) x.number → p ≡ cond r (λ s k. cond (eqb s x.source && eqb k x.number) None (pending_of low ws s k)) (pending_of low ws) → p ≡ without x (pending_of low ws)
-cleared low ws x p true e f = f
-cleared low ws x p false e f = f ∙ without_none x (pending_of low ws) (outside_window low ws x.source x.number (sym e))
+pub cleared : (xs : List Source) (x : Name) (p : Pending) (r : Bool) → r ≡ in_window (lows_in xs x.source) x.number → p ≡ cond r (λ s k. cond (eqb s x.source && eqb k x.number) None (pending_of xs s k)) (pending_of xs) → p ≡ without x (pending_of xs)
+cleared xs x p true e f = f
+cleared xs x p false e f = f ∙ without_none x (pending_of xs) (outside_window xs x.source x.number (sym e))
 
 -- what is not above low is not pending
-pub raised_low : (low : List ℕ) (ws : List Window) (s to : ℕ) → to ≤ get_or low s 0 → pending_of low ws ≡ (λ t k. cond (eqb t s && leb k to) None (pending_of low ws t k))
-raised_low low ws s to h = fun_ext (λ t. fun_ext (λ k. go t k (cases_Bool (eqb t s && leb k to))))
-  where
-    go : (t k : ℕ) → ((eqb t s && leb k to) ≡ true) ⊎ ((eqb t s && leb k to) ≡ false) → pending_of low ws t k ≡ cond (eqb t s && leb k to) None (pending_of low ws t k)
-    go t k (inr e) = sym (cond-false (eqb t s && leb k to) None (pending_of low ws t k) e)
-    go t k (inl e) =
-        let p : (eqb t s ≡ true) × (leb k to ≡ true) = and_parts (eqb t s) (leb k to) e in
-        let a : t ≡ s = eqb-true t s p.0 in
-        let b : k ≤ to = leb-true k to p.1 in
-        ap (λ n. pending_of low ws n k) a ∙ (outside low ws s k (inl (omega arith)) ∙ sym (cond-true (eqb t s && leb k to) None (pending_of low ws t k) e))
+pub raised_low : (x : Source) (to : ℕ) → to ≤ x.low → (k : ℕ) → source_of x k ≡ cond (leb k to) None (source_of x k)
+raised_low x to h k = elim (cases_lt to k) [
+  | inl l ↦ sym (cond-false (leb k to) None (source_of x k) (lt-leb k to l))
+  | inr l ↦ window_low x.low x.kept k (omega arith) ∙ sym (cond-true (leb k to) None (source_of x k) (le-leb k to l))
+]
+
+-- low grows, and the window with it
+pub raised_window : (x : Source) (to : ℕ) (v : List (Option CKept)) → x.low ≤ to → ((j : ℕ) → get_or v j None ≡ get_or x.kept (to - x.low + j) None) → (k : ℕ) → window_of to v k ≡ cond (leb k to) None (source_of x k)
+raised_window x to v le f k =
+    let e : x.low + (to - x.low) ≡ to = omega arith in
+    subst (λ n. window_of n v k ≡ cond (leb k n) None (source_of x k)) e (window_raise x.low (to - x.low) x.kept v f k)
 
 -- one more source is raised
 pub raised : List ℕ → Pending → ℕ → Pending
@@ -133,3 +134,13 @@ raised_all low p i h = fun_ext (λ s. fun_ext (λ k. elim (cases_lt s i) [
     both true false y e = sym e
     both false true y e = e
     both false false y e = refl
+
+-- of one source, what is pending under some numbers changes, or nothing does
+pub put_change : (xs : List Source) (s : ℕ) (x : Source) (r : Bool) (test : ℕ → Bool) (o : Option Kept) → s < length xs → ((i : ℕ) → source_of x i ≡ cond (r && test i) o (source_of (get_or xs s blank) i))
+    → pending_of (set xs s x) ≡ cond r (λ t i. cond (eqb t s && test i) o (pending_of xs t i)) (pending_of xs)
+put_change xs s x true test o h f = pending_change xs s x test o h f
+put_change xs s x false test o h f = pending_change xs s x (λ i. false) o h f ∙ fun_ext (λ t. fun_ext (λ i. go (eqb t s) (pending_of xs t i)))
+  where
+    go : (a : Bool) (y : Option Kept) → cond (a && false) o y ≡ y
+    go true y = refl
+    go false y = refl

@@ -12,7 +12,7 @@ use Rattle.head.specs.Hear.{found}
 use Rattle.store.specs.declared.types.Slot.{Slot as CSlot}
 use Rattle.store.specs.declared.types.Slot.TheVariants.{Unknown, Ack as CAck, Data}
 use Rattle.store.specs.declared.types.Kept.{Kept as CKept}
-use Rattle.store.specs.declared.types.Window.{Window}
+use Rattle.store.specs.declared.types.Source.{Source}
 use Rattle.store.specs.declared.types.Queue.{Queue as CQueue}
 use Rattle.store.specs.declared.types.Inbox.{Inbox}
 
@@ -39,8 +39,8 @@ kept_of None = None
 kept_of (Some k) = Some (record { level = level_number k.level; body = body_of k.body })
 
 -- nothing is pending
-abbrev pub blank : Window
-blank = record { kept = None ∷ None ∷ None ∷ None ∷ []; places = refl }
+abbrev pub blank : Source
+blank = record { low = 0; kept = None ∷ None ∷ None ∷ None ∷ []; places = refl }
 
 -- the slots from a base on: unknown outside
 unfoldable pub queue_of : ℕ → List CSlot → Queue
@@ -62,12 +62,23 @@ window_of low w k = cond (nat_lt low k) (kept_of (slice_index_or w (k - low - 1)
 abbrev pub in_window : ℕ → ℕ → Bool
 in_window low k = nat_lt low k && nat_le k (low + 4)
 
+-- what is pending of one source
+abbrev pub source_of : Source → ℕ → Option Kept
+source_of x = window_of x.low x.kept
+
+-- low of each source: 0 outside
+unfoldable pub lows_in : List Source → ℕ → ℕ
+lows_in xs s = (get_or xs s blank).low
+
+abbrev pub lows_of : Inbox → ℕ → ℕ
+lows_of b = lows_in b.sources
+
 -- the windows of all sources
-unfoldable pub pending_of : List ℕ → List Window → Pending
-pending_of low ws s = window_of (slice_index low s) (get_or ws s blank).kept
+unfoldable pub pending_of : List Source → Pending
+pending_of xs s = source_of (get_or xs s blank)
 
 abbrev pub inbox_of : Inbox → Pending
-inbox_of b = pending_of b.low b.pending
+inbox_of b = pending_of b.sources
 
 -- an ACK by its parts
 abbrev pub ack_of : ℕ → ℕ → Table CName 4 → Ack

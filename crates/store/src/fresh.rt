@@ -1,9 +1,9 @@
 // A queue and an inbox at the start.
 ghost use Rattle.std.specs.Prelude.{◌≡◌, None};
 ghost use Rattle.head.specs.Slots.{unknown};
-ghost use Rattle.store.specs.Parts.{table_of, inbox_of, slots_of};
+ghost use Rattle.store.specs.Parts.{table_of, lows_of, inbox_of, slots_of};
 
-use crate::types::{Inbox, Queue, Slot, Window};
+use crate::types::{Inbox, Queue, Slot, Source};
 
 impl Queue {
     // Nothing is known, from stamp 1 on.
@@ -23,13 +23,15 @@ impl Queue {
 impl Inbox {
     // Nothing is pending.
     pub fn new() -> Inbox
-        ensures low { table_of result.low ≡ (λ _. 0) }
+        ensures low { lows_of result ≡ (λ _. 0) }
         ensures pending { inbox_of result ≡ (λ _ _. None) }
     {
-        let window = Window { kept: [None; 4] };
+        let source = Source {
+            low: 0,
+            kept: [None; 4],
+        };
         Inbox {
-            low: [0; 8],
-            pending: [window; 8],
+            sources: [source; 8],
         }
     }
 }

@@ -18,9 +18,10 @@ pub struct Kept {
     pub body: Body,
 }
 
-// What is pending of one source: the four numbers after low.
+// Of one source, the highest number of the known front, and what is pending of the four numbers after it.
 #[derive(Clone, Copy)]
-pub struct Window {
+pub struct Source {
+    pub low: u32,
     pub kept: [Option<Kept>; 4],
     ghost places: { length kept ≡ 4 },
 }
@@ -37,14 +38,11 @@ pub struct Queue {
     ghost small: { base ≤ 1000001 },
 }
 
-// Of each source, the highest number of the known front, and what is pending after it. Two arrays and no array of pairs: low is
-// raised from the numbers of the queue and compared with them, which are an array by source too.
+// What is pending of each source.
 #[derive(Clone, Copy)]
 pub struct Inbox {
-    pub low: [u32; 8],
-    pub pending: [Window; 8],
-    ghost sources: { length low ≡ 8 },
-    ghost windows: { length pending ≡ 8 },
+    pub sources: [Source; 8],
+    ghost all: { length sources ≡ 8 },
 }
 
 // A ring as one head sees it: how many heads there are, and which of them it is.

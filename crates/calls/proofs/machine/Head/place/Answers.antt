@@ -1,4 +1,4 @@
-use Rattle.std.proofs.Common.{ℕ, max, cond, leb, List, None, refl, ap, ◌∙◌, arith}
+use Rattle.std.proofs.Common.{ℕ, max, cond, leb, None, refl, ap, ◌∙◌, arith}
 use Rattle.std.proofs.lemmas.Bool.{cond-true}
 use Rattle.head.specs.Head.{Pending}
 use Rattle.store.specs.Parts.{table_of, inbox_of}
@@ -21,7 +21,7 @@ invariant_of-self c =
       passed = code_passed x q l t i ns e.base e.gone es el c.requires.free x.due x.passed;
       ends = code_ends x q l t i ns e.base e.gone es el c.requires.stamps x.ends;
       own = code_own x q l t i ns e.base e.gone es el x.me x.made c.requires.own x.own;
-      lows = (λ s. c.raise_all.ensures.low s ∙ (ap (λ (xs : List ℕ). max (table_of xs s) (table_of l s)) c.clear_all.ensures.low ∙ code_low x q l t i ns e.base e.gone es el c.requires.free s));
+      lows = (λ s. c.raise_all.ensures.low s ∙ (ap (λ (f : ℕ → ℕ). max (f s) (table_of l s)) c.clear_all.ensures.low ∙ code_low x q l t i ns e.base e.gone es el c.requires.free s));
     }
 
 pub returns : goal.returns

@@ -2,7 +2,7 @@ use Rattle.std.proofs.Common.{◌≡◌, rules, ◌+◌, ◌-◌, ltb, length, S
 use Rattle.frames.specs.Types.{message_meant, names_of}
 use Rattle.frames.specs.Values.{Message}
 use Rattle.frames.proofs.Naming.{length-names_of}
-use Rattle.store.specs.Parts.{inbox_of, table_of}
+use Rattle.store.specs.Parts.{inbox_of, lows_of}
 use Rattle.calls.specs.Choice.{kept_at}
 use Rattle.calls.proofs.Gathering.{kept_past, pushed, run_none, run_stops, run_over, run_cut, run_goes_on, turn_some, turn_none}
 use Rattle.calls.proofs.member.Member.add_run.Goals as goal
@@ -22,7 +22,7 @@ loop-message-preserved c =
     let t = turn_some _ _ _ _ _ _ _ c.in-Some.ensures.steps.1.1 c.in-Some.ensures.steps.2 m refl in
     let called = t.2 in
     let l = ap (λ k. ltb k 4) (sym (length-names_of c.loop-message.names)) in
-    let k : kept_at (inbox_of b) s (table_of b.low s + (i + 1)) ≡ Some (message_meant m) = search rules in
+    let k : kept_at (inbox_of b) s (lows_of b s + (i + 1)) ≡ Some (message_meant m) = search rules in
     record {
       near = (omega arith, omega arith);
       same = search rules;
@@ -34,7 +34,7 @@ returns c =
     let b = c.args.self.now.head.inbox in
     let s = c.args.source in
     let i = c.loop-message.message-iterator.iter.start in
-    let k = table_of b.low s + (i + 1) in
+    let k = lows_of b s + (i + 1) in
     let xs = names_of c.loop-message.names in
     let same = c.loop-message.invariant.same in
     elim (turn_none _ _ _ _ _ _ _ c.in-None.ensures.steps.1.1 c.in-None.ensures.steps.2) [

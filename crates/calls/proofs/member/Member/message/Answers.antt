@@ -1,19 +1,17 @@
-use Rattle.std.proofs.Common.{◌+◌, sym, ap, ◌∙◌, arith}
-use Rattle.store.specs.Parts.{kept_of, table_of}
+use Rattle.std.proofs.Common.{◌+◌, Some, sym, ap, ◌∙◌, arith}
+use Rattle.store.specs.Parts.{kept_of, lows_of}
 use Rattle.calls.specs.Choice.{kept_under, sent_of}
 use Rattle.calls.specs.Model.{model}
-use Rattle.calls.proofs.Gathering.{kept_read, kept_small}
+use Rattle.calls.proofs.Gathering.{kept_read, kept_small, low_read}
 use Rattle.calls.proofs.Sending.{ranged_small}
 use Rattle.calls.proofs.member.Member.message.Goals as goal
 
 pub overflow_add-name-2 : goal.overflow_add-name-2
-unfolding table_of
 overflow_add-name-2 c =
     let x = c.args.self.now in
     let k = kept_small x.head.inbox c.args.source c.args.place _ _ _ c.requires.head c.requires.near (ranged_small x.head.size.heads (model x.head) x.ranged) c.in_ok-kept.was in omega arith
 
 pub invariant_of-name : goal.invariant_of-name
-unfolding table_of
 invariant_of-name c =
     let x = c.args.self.now in
     let k = kept_small x.head.inbox c.args.source c.args.place _ _ _ c.requires.head c.requires.near (ranged_small x.head.size.heads (model x.head) x.ranged) c.in_ok-kept.was in
@@ -23,11 +21,12 @@ pub returns-in_err-kept : goal.returns-in_err-kept
 returns-in_err-kept c =
     let b = c.args.self.now.head.inbox in
     let s = c.args.source in
-    ap sent_of c.from_residual.ensures ∙ sym (ap (kept_under s (table_of b.low s + (c.args.place + 1))) (kept_read b s c.args.place _ _ c.requires.head c.requires.near ∙ ap kept_of c.in_err-kept.was))
+    ap sent_of c.from_residual.ensures ∙ sym (ap (kept_under s (lows_of b s + (c.args.place + 1))) (kept_read b s c.args.place _ _ c.requires.head c.requires.near ∙ ap kept_of c.in_err-kept.was))
 
 pub returns : goal.returns
-unfolding table_of
 returns c =
     let b = c.args.self.now.head.inbox in
     let s = c.args.source in
-    sym (ap (kept_under s (table_of b.low s + (c.args.place + 1))) (kept_read b s c.args.place _ _ c.requires.head c.requires.near ∙ ap kept_of c.in_ok-kept.was))
+    let j = c.args.place in
+    let kept = kept_read b s j _ _ c.requires.head c.requires.near ∙ ap kept_of c.in_ok-kept.was in
+    sym (ap (kept_under s (lows_of b s + (j + 1))) kept ∙ ap (λ l. kept_under s (l + (j + 1)) (kept_of (Some c.in_ok-kept.kept))) (low_read b s c.index-self-source.result c.requires.head))
