@@ -41,7 +41,7 @@ fn show_names<W: fmt::Write>(names: &[Name], f: &mut fmt::Formatter<W>) -> fmt::
 }
 
 fn show_ack<W: fmt::Write>(size: RingSize, ack: Ack, f: &mut fmt::Formatter<W>) -> fmt::Result {
-    let next = (u16::from(ack.issuer) + 1) % u16::from(size.heads);
+    let next = size.after(ack.issuer);
     write!(
         f,
         "ACK: stamp {}, issuer {}, next {next}",

@@ -34,6 +34,7 @@ impl From<Result<Frame, LineError>> for Sort {
 
 #[derive(Clone, Copy, Default)]
 pub struct Tally {
+    // a count for each sort, by its number
     counts: [u64; 6],
 }
 

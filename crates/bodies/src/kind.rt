@@ -35,7 +35,7 @@ pub trait Kind: Sized {
     ghost fits: { (x : Self) → body_length_ok (length (bytes x)) ≡ true };
 }
 
-// The first byte of a door's body.
+// The first byte of a door's body. A constant and no enum, as a measure's KIND: each kind of body is a type.
 const DOOR: u8 = 2;
 
 impl Kind for Door {

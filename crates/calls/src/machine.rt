@@ -5,7 +5,7 @@ ghost use Rattle.store.specs.Parts.{lows_of, low_of, Passed, Ends, Own};
 use frames::types::RingSize;
 use store::types::{Inbox, Queue};
 
-// size: no call changes it, and each says so by a clause of its own, since the model that the other clause speaks of has no size; one definition over both would only name the pair.
+// size: no call changes it, and each says so by a clause of its own, since the model that the other clause speaks of has no size; one definition over both would only name the pair, and a Model would hide the fields that callers read.
 // due: the next stamp to deliver. What is before it is known, no stamp past the last is known,
 // no own number above made is named, and low is what the queue says.
 #[derive(Clone, Copy)]

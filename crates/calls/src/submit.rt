@@ -35,7 +35,8 @@ impl Head {
         Ok(message)
     }
 
-    // A new message of this head, with its Data frame to put.
+    // A new message of this head, with its Data frame to put. The level is a number, since one that the ring cannot meet is
+    // refused; a Level would ask more of the caller.
     pub fn submit(&mut self, level: u8, bytes: &[u8]) -> Result<Done<Submission>, Refusal>
         ensures size { self.new.size ≡ self.old.size }
         ensures after { does submission result (model self.new) ≡ m_submit self.old.size.heads level bytes.now (model self.old) }

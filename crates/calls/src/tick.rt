@@ -13,9 +13,24 @@ ghost use Rattle.calls.specs.Members.{model_of};
 use crate::answers::{Done, Ticked};
 use crate::machine::Head;
 use crate::member::Member;
-use frames::types::{Frame, Nack, Names};
+use frames::types::{Ack, Frame, Nack, Names};
 use store::look::{asked, wait};
 use store::put::frames_there;
+use store::types::Frames;
+
+// What a tick did that put frames.
+fn fired(puts: Frames, issued: Option<Ack>) -> Done<Ticked>
+    ensures answer { result.answer ≡ Ticked.Fired puts.count }
+    ensures puts { result.puts ≡ puts }
+    ensures issued { result.issued ≡ issued }
+{
+    let count = puts.count as u8;
+    Done {
+        answer: Ticked::Fired { count },
+        puts,
+        issued,
+    }
+}
 
 impl Head {
     // The top ACK, if it is this head's own.
@@ -46,13 +61,7 @@ impl Member {
         let puts = frames_there(nack, self.head.own_top(), self.lowest_own());
         self.head.ticks = 0;
         self.head.tries = self.head.tries.saturating_add(1).min(15);
-        Done {
-            answer: Ticked::Fired {
-                count: puts.count as u8,
-            },
-            puts,
-            issued: None,
-        }
+        fired(puts, None)
     }
 
     // With a new ACK. Before the upkeep.
@@ -65,13 +74,7 @@ impl Member {
     {
         let ack = self.issue(names);
         let puts = frames_there(Some(Frame::Ack(ack)), None, self.lowest_own());
-        Done {
-            answer: Ticked::Fired {
-                count: puts.count as u8,
-            },
-            puts,
-            issued: Some(ack),
-        }
+        fired(puts, Some(ack))
     }
 
     // Nothing is missing: an ACK where one is due. Before the upkeep.

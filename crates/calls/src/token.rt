@@ -16,9 +16,9 @@ impl Head {
     fn next(&self) -> u8
         ensures { result ≡ next_of self.now.size.heads (top (model self.now)) }
     {
-        self.queue.top().map_or(0, |ack| {
-            ((ack.issuer as u16 + 1) % self.size.heads as u16) as u8
-        })
+        self.queue
+            .top()
+            .map_or(0, |ack| self.size.after(ack.issuer))
     }
 
     // It is named as next, and has all that it knows of.

@@ -39,6 +39,7 @@ impl Ack {
         let next = size.after(self.issuer);
         let count = self.names.count as u8;
         put(out, 0, &[ACK, a, b, c, d, self.issuer, next, count]);
+        // By place: the library says nothing of what chunks that are lent to be written end as.
         for (i, name) in self.names.as_slice().iter().enumerate() {
             put(out, 8 + 6 * i, &name.to_bytes());
         }
@@ -68,7 +69,8 @@ fn write_front(size: RingSize, frame: Frame, out: &mut [u8])
     }
 }
 
-// Writes the frame at the front of out, as a ring of this size sends it, and answers its length.
+// Writes the frame at the front of out, as a ring of this size sends it, and answers its length. The memory is the caller's, since
+// there is no heap.
 pub fn write(size: RingSize, frame: Frame, out: &mut [u8]) -> Result<usize, Refusal>
     ensures answer { result ≡ write_answer size.heads (frame_of frame) (length out.old) }
     ensures after { out.new ≡ (if is_ok result then front_written size.heads (frame_of frame) out.old else out.old) }

@@ -16,6 +16,8 @@ use frames::write::pack;
 use links::link::Link;
 use store::types::Frames;
 
+// The link and the size come apart from their ring here: as methods of the ring these would owe that its heads stay.
+
 // Puts one frame, as a packet.
 fn put_one<L: Link>(link: &mut L, size: RingSize, frame: Frame)
     requires { frame_ok size.heads (frame_of frame) ≡ true }

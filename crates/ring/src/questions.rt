@@ -38,7 +38,7 @@ pub trait Questions {
         ensures size { result.now.size.heads ≡ size self.now }
         ensures heads { head_at result.now.all ≡ (asked self.now).heads };
 
-    // Of each head its mark, 0 where there is none.
+    // Of each head its mark, 0 where there is none: eight numbers, as the dock reads them.
     fn marks(&self) -> [u32; 8]
         ensures { result ≡ marks_of (size self.now) (asked self.now) }
     {
@@ -56,7 +56,7 @@ pub trait Questions {
         Ok(self.heads().at(head)?.head.base())
     }
 
-    // The next stamp that a head will deliver.
+    // The next stamp that a head will deliver, or would have delivered.
     fn due(&self, head: u8) -> Result<u32, Refusal>
         ensures { result ≡ due_of (size self.now) (asked self.now) head }
     {

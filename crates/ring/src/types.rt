@@ -14,7 +14,8 @@ pub struct Roster {
     ghost most: { count ≤ 8 },
 }
 
-// A head for each number. A ring has the first ones, as many as its size says: a device has fixed memory and no heap.
+// A head for each number. A ring has the first ones, as many as its size says: a device has fixed memory and no heap. An array and
+// no Table: every place has a head, and the ring's size counts those that are its own.
 #[derive(Drop)]
 pub struct Heads {
     pub(crate) all: [Member; 8],

@@ -32,7 +32,7 @@ impl Queue {
         self.last_ack(count as usize).map(|ack| ack.stamp)
     }
 
-    // Which heads issued a known ACK from a stamp on.
+    // Which heads issued a known ACK from a stamp on: a flag for each, as the definition tells them.
     fn issuers_from(&self, stamp: u32) -> [bool; 8]
         requires { (self.now.base ≤ stamp) × (stamp ≤ self.now.base + 96) }
         ensures { Tells result (issuers (slots_of self.now) (self.now.base + 96 - stamp) stamp) }

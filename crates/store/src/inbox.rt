@@ -101,7 +101,7 @@ impl Inbox {
         Slot::Data { name, body }
     }
 
-    // Keeps a message, if its number is one of the four after low.
+    // Keeps a message, if its number is one of the four after low. A bool: no value stands beside it.
     pub fn keep(&mut self, message: Message) -> bool
         ensures answer { result ≡ in_window (lows_of self.old message.name.source) message.name.number }
         ensures low { lows_of self.new ≡ lows_of self.old }
@@ -144,6 +144,7 @@ impl Inbox {
         ensures low { (s : ℕ) → lows_of self.new s ≡ max (lows_of self.old s) (table_of low s) }
         ensures pending { inbox_of self.new ≡ (λ s k. (if leb k (table_of low s) then None else inbox_of self.old s k)) }
     {
+        // By number: a field of a struct with ghost fields is not lent to an iter_mut.
         for (source, to) in low.iter().enumerate() {
             self.raise(source, *to);
         }

@@ -9,7 +9,8 @@ ghost use Rattle.store.specs.Parts.{slot_of};
 use crate::types::{InRing, Queue, Slot};
 
 impl Slot {
-    // 1 plus the issuer of an ACK, if it is counted and not in the table yet, into which it goes; otherwise 0.
+    // 1 plus the issuer of an ACK, if it is counted and not in the table yet, into which it goes; otherwise 0,
+    // the byte's own word for none.
     fn new_mark(&self, ring: InRing, marked: &mut [bool; 8]) -> u8
         ensures mark { result ≡ m_new_mark ring.size.heads ring.me marked.old (slot_of self.now) }
         ensures table { (g : ℕ) → slice_index_or marked.new g false ≡ (slice_index_or marked.old g false || (counts ring.size.heads ring.me g && issued_by g (slot_of self.now))) }
@@ -32,6 +33,7 @@ impl Queue {
         ensures { (h : Head) → Keeps h ring.me self.now → scratch.new ≡ holder_marks ring.size.heads h (self.now.base + from) 96 self.now.base ++ drop 96 scratch.old }
     {
         let mut marked = [false; 8];
+        // By place: nothing is said of what is written through an iter_mut over lent memory.
         for (i, slot) in self.slots.iter().enumerate() {
             let mark = if i < from {
                 0
@@ -42,7 +44,8 @@ impl Queue {
         }
     }
 
-    // Marks, for the slot at a stamp, the first ACK of each head that holders counts; false, and nothing changes, where there are fewer than 96 bytes.
+    // Marks, for the slot at a stamp, the first ACK of each head that holders counts; false, and nothing changes, where there are fewer than 96 bytes. A
+    // bool: no value stands beside it.
     pub fn mark_holders(&self, ring: InRing, stamp: u32, scratch: &mut [u8]) -> bool
         ensures answer { result ≡ nat_le 96 (length scratch.old) }
         ensures after { (h : Head) → Keeps h ring.me self.now → scratch.new ≡ (if result then marks_from ring.size.heads h (m_orderer h stamp) ++ drop 96 scratch.old else scratch.old) }

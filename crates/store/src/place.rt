@@ -25,12 +25,14 @@ impl Queue {
     {
         let Ack { issuer, names, .. } = ack;
         self.slots[at] = Slot::Ack { issuer, names };
+        // By place: a field of a struct with ghost fields is not lent to an iter_mut.
         for (i, name) in names.as_slice().iter().enumerate() {
             self.slots[at + 1 + i] = inbox.slot_for(*name);
         }
     }
 
-    // Sets the slots of an ACK, with the bodies that are pending; false, and nothing changes, where they do not stand in the queue.
+    // Sets the slots of an ACK, with the bodies that are pending; false, and nothing changes, where they do not stand in the queue. A bool: no
+    // value stands beside it.
     pub fn lay(&mut self, ack: Ack, inbox: &Inbox) -> bool
         ensures answer { result ≡ spans self.old ack.stamp ack.names.count }
         ensures base { self.new.base ≡ self.old.base }

@@ -14,6 +14,7 @@ const UNUSED: Frame = Frame::Nack(Nack {
     stamp: 1,
 });
 
+// A function of its own beside Names::none: its filler is another.
 pub fn no_frames() -> Frames
     ensures { puts_of result ≡ [] }
 {

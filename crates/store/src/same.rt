@@ -18,13 +18,14 @@ pub fn is_name(a: Name, b: Name) -> bool
     a == b
 }
 
+// By the slices, as is_body: no derive writes == for a table, whose unused places do not count.
 pub fn is_list(a: Names, b: Names) -> bool
     ensures { result ≡ same_names (names_of a) (names_of b) }
 {
     a.as_slice() == b.as_slice()
 }
 
-// The message is among the names from a place on.
+// The message is among the names from a place on. They come whole: a part of a slice within a closure left goals that did not close.
 fn is_listed(name: Name, names: &[Name], from: usize) -> bool
     ensures { result ≡ listed (name_of name) (map name_of (drop from names.now)) }
 {

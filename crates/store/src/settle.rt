@@ -80,7 +80,8 @@ impl Queue {
         self.base += k as u32;
     }
 
-    // Gives up as long as something can be; false, and nothing changes, where due is past the last stamp and the one after it.
+    // Gives up as long as something can be; false, and nothing changes, where due is past the last stamp and the one after it. A bool: no
+    // value stands beside it.
     pub fn give_up(&mut self, n: u8, due: u32) -> bool
         ensures answer { result ≡ nat_le due 1000001 }
         ensures after { (h : Head) → part h due self.new ≡ (if result then m_give_up 96 n (part h due self.old) else part h due self.old) }

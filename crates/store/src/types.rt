@@ -1,4 +1,4 @@
-// What a head keeps.
+// What a head keeps, what it puts, and its ring as it sees it.
 ghost use Rattle.std.specs.Prelude.{◌≡◌, ◌<◌, ◌≤◌, length};
 
 use frames::table::Table;
