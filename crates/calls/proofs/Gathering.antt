@@ -1,8 +1,8 @@
 -- The steps of the choice of what a head sends of its own accord.
-use Rattle.std.proofs.Common.{◌≡◌, ℕ, zero, suc, ◌+◌, ◌-◌, ◌%◌, ◌<◌, ◌≤◌, Bool, true, false, map, cond, ltb, List, [], ◌∷◌, ◌++◌, length, get_or, Some, None, Option, MatchOption, subst, ◌⊎◌, sym, refl, ap, ◌∙◌, inl, inr, append_assoc, append-nil, arith, length-append}
+use Rattle.std.proofs.Common.{◌≡◌, ℕ, zero, suc, ◌+◌, ◌-◌, ◌%◌, ◌<◌, ◌≤◌, Bool, true, false, map, cond, ltb, leb, List, [], ◌∷◌, ◌++◌, length, get_or, Some, None, Option, MatchOption, subst, ◌⊎◌, sym, refl, ap, ◌∙◌, inl, inr, append_assoc, append-nil, arith, length-append}
 use Rattle.std.proofs.Math.Nat.{mod-add-mod, mod-eq_of_lt}
-use Rattle.std.proofs.lemmas.List.{map-append, get_or_default}
-use Rattle.std.proofs.lemmas.Bool.{cond-true, cond-false, cases_lt, both_ways, ltb-true, ltb-false}
+use Rattle.std.proofs.lemmas.List.{map-append}
+use Rattle.std.proofs.lemmas.Bool.{and_right, lt-leb, cond-true, cond-false, cases_lt, both_ways, ltb-true, ltb-false}
 use Rattle.frames.specs.Bounds.{after}
 use Rattle.frames.specs.declared.types.Name.{Name as CName}
 use Rattle.frames.specs.Types.{name_of}
@@ -14,47 +14,37 @@ use Rattle.head.specs.Turn.{run_of, gather, to_order}
 use Rattle.store.specs.declared.types.Kept.{Kept as CKept}
 use Rattle.store.specs.declared.types.Source.{Source}
 use Rattle.store.specs.declared.types.Inbox.{Inbox}
-use Rattle.store.specs.Parts.{blank, inbox_of, kept_of, lows_in, lows_of, source_of, Most}
+use Rattle.store.specs.Parts.{inbox_of, kept_of, lows_of, Most}
 use Rattle.calls.specs.declared.machine.Head.{Head as CHead}
 use Rattle.calls.specs.Choice.{kept_under, kept_at}
 use Rattle.calls.specs.Model.{model}
-use Rattle.store.proofs.View.{pending_at, window_far, window_in}
+use Rattle.store.proofs.View.{low_read, pending_read}
+use Rattle.store.proofs.Windows.{inside, outside_window}
 use Rattle.calls.proofs.Lows.{low_is}
 
 -- what is pending
 
--- low of a source that was read
-pub low_read : (b : Inbox) (s : ℕ) (z : Source) → s < 8 → lows_of b s ≡ (get_or b.sources s z).low
-unfolding lows_in
-low_read b s z h = let f = b.all in ap (λ (x : Source). x.low) (get_or_default b.sources s blank z (omega arith))
-
 pub kept_read : (b : Inbox) (s j : ℕ) (z : Source) (y : Option CKept) → s < 8 → j < 4 → inbox_of b s (lows_of b s + (j + 1)) ≡ kept_of (get_or (get_or b.sources s z).kept j y)
 kept_read b s j z y h g =
     let x : Source = get_or b.sources s z in
-    let f = b.all in
-    let four = x.places in
+    let f = b.places in
     let k : ℕ = lows_of b s + (j + 1) in
-    let e = low_read b s z h in
-    pending_at b.sources s k
-    ∙ (ap (λ v. source_of v k) (get_or_default b.sources s blank z (omega arith))
-    ∙ (window_in x.low x.kept k j (omega arith) ∙ ap kept_of (get_or_default x.kept j None y (omega arith))))
+    let e = low_read b.sources s z (omega arith) in
+    pending_read b.sources s k z (omega arith) ∙ sym (inside x k j y (omega arith) g)
 
 -- no number past the last is pending
 pub kept_small : (b : Inbox) (s j : ℕ) (z : Source) (y : Option CKept) (m : CKept) → s < 8 → j < 4 → ((g : ℕ) → Most g 500000 (inbox_of b)) → get_or (get_or b.sources s z).kept j y ≡ Some m → (get_or b.sources s z).low + (j + 1) ≤ 500000
 kept_small b s j z y m h g few e =
     let k : ℕ = lows_of b s + (j + 1) in
-    let l = low_read b s z h in
+    let f = b.places in
+    let l = low_read b.sources s z (omega arith) in
     elim (cases_lt 500000 k) [
       | inl past ↦ absurd (both_ways (found (inbox_of b s k)) (few s k past) (ap found (kept_read b s j z y h g ∙ ap kept_of e)))
       | inr near ↦ omega arith
     ]
 
 pub kept_past : (b : Inbox) (s k : ℕ) → lows_of b s + 4 < k → inbox_of b s k ≡ None
-unfolding lows_in
-kept_past b s k h =
-    let x : Source = get_or b.sources s blank in
-    let four = x.places in
-    pending_at b.sources s k ∙ window_far x.low x.kept k (omega arith)
+kept_past b s k h = outside_window b.sources s k (and_right (ltb (lows_of b s) k) (leb k (lows_of b s + 4)) (lt-leb k (lows_of b s + 4) h))
 
 -- runs
 

@@ -123,6 +123,14 @@ pub pending_at : (xs : List Source) (s k : ℕ) → pending_of xs s k ≡ source
 unfolding pending_of
 pending_at xs s k = refl
 
+-- reading a source, at any default
+pub low_read : (xs : List Source) (s : ℕ) (z : Source) → s < length xs → lows_in xs s ≡ (get_or xs s z).low
+unfolding lows_in
+low_read xs s z h = ap (λ (x : Source). x.low) (get_or_default xs s blank z h)
+
+pub pending_read : (xs : List Source) (s k : ℕ) (z : Source) → s < length xs → pending_of xs s k ≡ source_of (get_or xs s z) k
+pending_read xs s k z h = pending_at xs s k ∙ ap (λ x. source_of x k) (get_or_default xs s blank z h)
+
 -- one source is put
 pub pending_put : (xs : List Source) (s : ℕ) (x : Source) → s < length xs → (t i : ℕ) → pending_of (set xs s x) t i ≡ cond (eqb t s) (source_of x i) (pending_of xs t i)
 unfolding pending_of
@@ -131,10 +139,10 @@ pending_put xs s x h t i = by_eq t s (source_of x i) (pending_of xs t i) (pendin
     (λ ne. ap (λ y. source_of y i) (get_or-set_other xs s t x blank ne))
 
 -- low of one source is raised
-pub lows_raise : (xs : List Source) (s to : ℕ) (x : Source) → s < length xs → x.low ≡ max (get_or xs s blank).low to → (t : ℕ) → lows_in (set xs s x) t ≡ cond (eqb t s) (max (lows_in xs t) to) (lows_in xs t)
+pub lows_raise : (xs : List Source) (s to : ℕ) (x : Source) → s < length xs → x.low ≡ max (lows_in xs s) to → (t : ℕ) → lows_in (set xs s x) t ≡ cond (eqb t s) (max (lows_in xs t) to) (lows_in xs t)
 unfolding lows_in
 lows_raise xs s to x h f t = by_eq t s (max (lows_in xs t) to) (lows_in xs t) (lows_in (set xs s x) t)
-    (λ e. ap (λ n. (get_or (set xs s x) n blank).low) e ∙ (ap (λ (y : Source). y.low) (get_or-set_same xs s x blank h) ∙ (f ∙ ap (λ n. max (get_or xs n blank).low to) (sym e))))
+    (λ e. ap (lows_in (set xs s x)) e ∙ (ap (λ (y : Source). y.low) (get_or-set_same xs s x blank h) ∙ (f ∙ ap (λ n. max (lows_in xs n) to) (sym e))))
     (λ ne. ap (λ (y : Source). y.low) (get_or-set_other xs s t x blank ne))
 
 pub lows_past : (xs : List Source) (s : ℕ) → length xs ≤ s → lows_in xs s ≡ 0
@@ -142,10 +150,10 @@ unfolding lows_in
 lows_past xs s h = ap (λ (y : Source). y.low) (get_or_past xs s blank h)
 
 -- a source with the same low is put
-pub lows_same : (xs : List Source) (s : ℕ) (x : Source) → s < length xs → x.low ≡ (get_or xs s blank).low → lows_in (set xs s x) ≡ lows_in xs
+pub lows_same : (xs : List Source) (s : ℕ) (x : Source) → s < length xs → x.low ≡ lows_in xs s → lows_in (set xs s x) ≡ lows_in xs
 unfolding lows_in
 lows_same xs s x h f = fun_ext (λ t. elim (cases_eq t s) [
-  | inl e ↦ ap (λ n. (get_or (set xs s x) n blank).low) e ∙ (ap (λ (y : Source). y.low) (get_or-set_same xs s x blank h) ∙ (f ∙ ap (λ n. (get_or xs n blank).low) (sym e)))
+  | inl e ↦ ap (lows_in (set xs s x)) e ∙ (ap (λ (y : Source). y.low) (get_or-set_same xs s x blank h) ∙ (f ∙ ap (lows_in xs) (sym e)))
   | inr ne ↦ ap (λ (y : Source). y.low) (get_or-set_other xs s t x blank ne)
 ])
 
@@ -155,14 +163,13 @@ cond_and true false x y z h = h refl
 cond_and false b x y z h = refl
 
 -- of one source, what is pending under some numbers changes
-pub pending_change : (xs : List Source) (s : ℕ) (x : Source) (test : ℕ → Bool) (o : Option Kept) → s < length xs → ((i : ℕ) → source_of x i ≡ cond (test i) o (source_of (get_or xs s blank) i))
-    → pending_of (set xs s x) ≡ (λ t i. cond (eqb t s && test i) o (pending_of xs t i))
+pub pending_change : (xs : List Source) (s : ℕ) (x : Source) (test : ℕ → Bool) (o : Option Kept) → s < length xs → ((i : ℕ) → source_of x i ≡ cond (test i) o (pending_of xs s i)) → pending_of (set xs s x) ≡ (λ t i. cond (eqb t s && test i) o (pending_of xs t i))
 pending_change xs s x test o h f = fun_ext (λ t. fun_ext (λ i. go t i))
   where
     go : (t i : ℕ) → pending_of (set xs s x) t i ≡ cond (eqb t s && test i) o (pending_of xs t i)
     go t i =
         pending_put xs s x h t i ∙ (ap (λ y. cond (eqb t s) y (pending_of xs t i)) (f i)
-        ∙ cond_and (eqb t s) (test i) o (source_of (get_or xs s blank) i) (pending_of xs t i) (λ y. sym (ap (λ n. pending_of xs n i) (eqb-true t s y) ∙ pending_at xs s i)))
+        ∙ cond_and (eqb t s) (test i) o (pending_of xs s i) (pending_of xs t i) (λ y. sym (ap (λ n. pending_of xs n i) (eqb-true t s y))))
 
 pub pending_source : (xs : List Source) (s k : ℕ) → length xs ≤ s → pending_of xs s k ≡ None
 pending_source xs s k h = pending_at xs s k ∙ (ap (λ x. source_of x k) (get_or_past xs s blank h) ∙ empty k)

@@ -1,7 +1,7 @@
 -- The steps of the calls on an inbox.
 use Rattle.std.proofs.Common.{◌≡◌, ℕ, zero, suc, ◌+◌, ◌-◌, ◌<◌, ◌≤◌, Bool, true, false, cond, ◌&&◌, ◌||◌, eqb, ltb, leb, List, [], ◌∷◌, length, map, get_or, drop, set, replicate, None, Option, sym, refl, ap, ◌∙◌, subst, inl, inr, arith}
 use mathlib.Core.Path.{fun_ext}
-use Rattle.std.proofs.lemmas.List.{at_drop_all, at_drop_more}
+use Rattle.std.proofs.lemmas.List.{get_or_default, at_drop_all, at_drop_more}
 use Rattle.std.proofs.lemmas.Bool.{both_ways, cases_lt, cases_eq, lt-ltb, le-ltb, le-leb, lt-leb, and_from, cond-true, cond-false}
 use Rattle.std.proofs.lemmas.Bool.Decides.{nat_tests}
 use Rattle.frames.specs.declared.types.Name.{Name as CName}
@@ -10,8 +10,8 @@ use Rattle.frames.specs.Types.{name_of}
 use Rattle.head.specs.Head.{Kept, Pending, numbered_in}
 use Rattle.store.specs.declared.types.Kept.{Kept as CKept}
 use Rattle.store.specs.declared.types.Source.{Source}
-use Rattle.store.specs.Parts.{blank, in_window, lows_in, pending_of, source_of, table_of, window_of, without}
-use Rattle.store.proofs.View.{pending_at, pending_change, window_low, window_far, window_raise}
+use Rattle.store.specs.Parts.{blank, in_window, kept_of, lows_in, pending_of, source_of, table_of, window_of, without}
+use Rattle.store.proofs.View.{pending_at, pending_change, window_low, window_far, window_in, window_raise}
 
 pub none_at : (j : ℕ) → get_or (replicate 4 None) j None ≡ (let n : Option CKept = None in n)
 none_at zero = refl
@@ -19,6 +19,10 @@ none_at (suc zero) = refl
 none_at (suc (suc zero)) = refl
 none_at (suc (suc (suc zero))) = refl
 none_at (suc (suc (suc (suc j)))) = refl
+
+-- at a place of the window
+pub inside : (x : Source) (k i : ℕ) (y : Option CKept) → k ≡ x.low + 1 + i → i < 4 → kept_of (get_or x.kept i y) ≡ source_of x k
+inside x k i y e h = let four = x.places in ap kept_of (get_or_default x.kept i y None (omega arith)) ∙ sym (window_in x.low x.kept k i e)
 
 -- outside the window there is nothing
 pub outside : (x : Source) (k : ℕ) → in_window x.low k ≡ false → source_of x k ≡ None
@@ -136,7 +140,7 @@ raised_all low p i h = fun_ext (λ s. fun_ext (λ k. elim (cases_lt s i) [
     both false false y e = refl
 
 -- of one source, what is pending under some numbers changes, or nothing does
-pub put_change : (xs : List Source) (s : ℕ) (x : Source) (r : Bool) (test : ℕ → Bool) (o : Option Kept) → s < length xs → ((i : ℕ) → source_of x i ≡ cond (r && test i) o (source_of (get_or xs s blank) i))
+pub put_change : (xs : List Source) (s : ℕ) (x : Source) (r : Bool) (test : ℕ → Bool) (o : Option Kept) → s < length xs → ((i : ℕ) → source_of x i ≡ cond (r && test i) o (pending_of xs s i))
     → pending_of (set xs s x) ≡ cond r (λ t i. cond (eqb t s && test i) o (pending_of xs t i)) (pending_of xs)
 put_change xs s x true test o h f = pending_change xs s x test o h f
 put_change xs s x false test o h f = pending_change xs s x (λ i. false) o h f ∙ fun_ext (λ t. fun_ext (λ i. go (eqb t s) (pending_of xs t i)))

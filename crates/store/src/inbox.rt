@@ -21,6 +21,7 @@ impl Source {
     }
 
     // What is pending under a number.
+    #[tactic(auto, using(crate::proofs::Windows::outside, crate::proofs::Windows::inside))]
     fn waiting(&self, number: u32) -> Option<Kept>
         ensures { kept_of result ≡ source_of self.now number }
     {
@@ -28,6 +29,7 @@ impl Source {
     }
 
     // Sets what is pending under a number, if it has a place.
+    #[tactic(auto, using(crate::proofs::View::window_set))]
     fn put(&mut self, number: u32, kept: Option<Kept>) -> bool
         ensures answer { result ≡ in_window self.old.low number }
         ensures low { self.new.low ≡ self.old.low }
@@ -50,6 +52,7 @@ impl Source {
     }
 
     // Raises low to a number; what is not above it is pending no more.
+    #[tactic(auto, using(crate::proofs::Windows::raised_low, crate::proofs::Windows::raised_window))]
     fn raise(&mut self, to: u32)
         ensures low { self.new.low ≡ max self.old.low to }
         ensures pending { (k : ℕ) → source_of self.new k ≡ (if nat_le k to then None else source_of self.old k) }
@@ -87,6 +90,7 @@ impl Inbox {
     }
 
     // What is pending under a name.
+    #[tactic(auto, using(crate::proofs::View::pending_read))]
     pub fn waiting(&self, name: Name) -> Option<Kept>
         ensures { kept_of result ≡ inbox_of self.now name.source name.number }
     {

@@ -42,7 +42,7 @@ pub struct Queue {
 #[derive(Clone, Copy)]
 pub struct Inbox {
     pub sources: [Source; 8],
-    ghost all: { length sources ≡ 8 },
+    ghost places: { length sources ≡ 8 },
 }
 
 // A ring as one head sees it: how many heads there are, and which of them it is.

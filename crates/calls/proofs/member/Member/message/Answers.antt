@@ -2,7 +2,8 @@ use Rattle.std.proofs.Common.{◌+◌, Some, sym, ap, ◌∙◌, arith}
 use Rattle.store.specs.Parts.{kept_of, lows_of}
 use Rattle.calls.specs.Choice.{kept_under, sent_of}
 use Rattle.calls.specs.Model.{model}
-use Rattle.calls.proofs.Gathering.{kept_read, kept_small, low_read}
+use Rattle.store.proofs.View.{low_read}
+use Rattle.calls.proofs.Gathering.{kept_read, kept_small}
 use Rattle.calls.proofs.Sending.{ranged_small}
 use Rattle.calls.proofs.member.Member.message.Goals as goal
 
@@ -29,4 +30,4 @@ returns c =
     let s = c.args.source in
     let j = c.args.place in
     let kept = kept_read b s j _ _ c.requires.head c.requires.near ∙ ap kept_of c.in_ok-kept.was in
-    sym (ap (kept_under s (lows_of b s + (j + 1))) kept ∙ ap (λ l. kept_under s (l + (j + 1)) (kept_of (Some c.in_ok-kept.kept))) (low_read b s c.index-self-source.result c.requires.head))
+    sym (ap (kept_under s (lows_of b s + (j + 1))) kept ∙ ap (λ l. kept_under s (l + (j + 1)) (kept_of (Some c.in_ok-kept.kept))) (low_read b.sources s c.index-self-source.result (omega (arith, b.places, c.requires.head))))

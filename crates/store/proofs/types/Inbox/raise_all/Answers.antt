@@ -31,8 +31,8 @@ unfolding table_of
 returns-clause-low c s =
     let b = c.args.self.now in
     let l = c.loop-source.self in
-    let m = b.all in
-    let n = l.all in
+    let m = b.places in
+    let n = l.places in
     elim (cases_lt s 8) [
       | inl h ↦ c.loop-source.invariant.1 s (omega arith)
       | inr h ↦ omega (arith, lows_past l.sources s (omega arith), lows_past b.sources s (omega arith), get_or_past c.args.low s 0 (omega arith))
@@ -41,5 +41,5 @@ returns-clause-low c s =
 pub returns-clause-pending : goal.returns-clause-pending
 returns-clause-pending c =
     let b = c.args.self.now in
-    let m = b.all in
+    let m = b.places in
     c.loop-source.invariant.2 ∙ raised_all c.args.low (inbox_of b) c.loop-source.source (λ s k h. pending_source b.sources s k (omega arith))
