@@ -1,7 +1,5 @@
 -- What a call on a ring in code does, in the words of the model.
 use Rattle.std.specs.Prelude.{◌≡◌, ℕ, ◌⊎◌, List, [], ◌∷◌, Ok, Err, Option, Result}
-use Rattle.std.specs.Fn.{Once, FnOnceReturnsAtMut}
-use denote.Ref.{MutBor}
 use Rattle.frames.specs.declared.refusal.Refusal.{Refusal}
 use Rattle.frames.specs.Values.{Frame}
 use Rattle.links.specs.Meaning.{Waits}
@@ -38,9 +36,9 @@ pub record Performs {A : Type 0} (m : Meaning A) (x : Member) (d : Result (CDone
   pub size : y.head.size ≡ x.head.size
   pub done : does m.word d (model_of y) ≡ perform x.head.size.heads m.call m.taken (model_of x)
 
--- whatever the call f of one head does, it does as is meant
-abbrev pub Means : {F A : Type 0} → Once F (MutBor Member × Unit {0}) (Result (CDone A) Refusal × (MutBor Member × Unit {0})) → F → Meaning A → Type 0
-Means {F} {A} calls f m = (x : Member) (d : Result (CDone A) Refusal) (y : Member) → FnOnceReturnsAtMut calls f x d y → Performs m x d y
+-- whatever a call may do to one head, it does as is meant
+abbrev pub Means : {A : Type 0} → (Member → Result (CDone A) Refusal → Member → Type 0) → Meaning A → Type 0
+Means {A} does_to m = (x : Member) (d : Result (CDone A) Refusal) (y : Member) → does_to x d y → Performs m x d y
 
 -- the heads of a ring, and what waits on its link
 abbrev pub ring_of : Heads → Waits → Ring

@@ -48,8 +48,8 @@ impl<L: Link> Ring<L> {
     ) -> Result<A, Refusal>
         requires there { head < self.old.heads.size.heads }
         requires callable { F.IsAlwaysCallable call }
-        requires meant { (m : Meaning A) × Means F.FnOnce call m }
-        ensures { (m : Meaning A) → Means F.FnOnce call m → (w : Waits) → Takes m.call head m.taken w (L.waits self.old.link) → Moved self.old.heads w head m.call (answered m.word result) self.new.heads (L.waits self.new.link) }
+        requires meant { (m : Meaning A) × Means (FnOnceReturnsAtMut F.FnOnce call) m }
+        ensures { (m : Meaning A) → Means (FnOnceReturnsAtMut F.FnOnce call) m → (w : Waits) → Takes m.call head m.taken w (L.waits self.old.link) → Moved self.old.heads w head m.call (answered m.word result) self.new.heads (L.waits self.new.link) }
     {
         let done = call_at(&mut self.heads.all, head as usize, call);
         send(&mut self.link, self.heads.size, done)
