@@ -113,11 +113,10 @@ fn issuer_of(top: Option<Ack>) -> u8
 impl InRing {
     // The head itself, or the one after it if it is this head.
     fn another(self, head: u8) -> u8
-        requires { head < self.size.heads }
         ensures { result ≡ m_another self.size.heads self.me head }
     {
         if head == self.me {
-            (head + 1) % self.size.heads
+            self.size.after(head)
         } else {
             head
         }
