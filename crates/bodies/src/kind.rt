@@ -106,7 +106,7 @@ impl<M: Measure> Kind for M {
 }
 
 // The body that says the value. What comes is read back as the same value.
-// No TryFrom: for every kind at once it would be a foreign trait on a foreign type.
+// No TryFrom, here and in decode: for every kind at once it would be a foreign trait on a foreign type.
 pub fn encode<K: Kind>(value: &K) -> Result<Body, Refusal>
     ensures answer { meant body_of result ≡ (if K.good value.now then Ok (K.bytes value.now) else Err ValueOutOfRange) }
     ensures rest { IfOk result BodyRest }

@@ -49,7 +49,7 @@ impl Member {
     {
         let heads = self.head.size.heads;
         let mut names = Names::none();
-        // Steps round the ring, and no places of a list.
+        // Steps round the ring, and no places of a list; two ranges in a chain are no plainer.
         for step in 0..heads {
             self.add_run((self.head.me + step) % heads, &mut names);
         }

@@ -23,7 +23,7 @@ impl Member {
         Ok(Member { head })
     }
 
-    // A new message of this head.
+    // A new message of this head. The level is a number: a Level would ask more of the caller.
     pub fn submit(&mut self, level: u8, bytes: &[u8]) -> Result<Done<Submission>, Refusal>
         ensures size { self.new.head.size ≡ self.old.head.size }
         ensures after { does submission result (model_of self.new) ≡ m_submit self.old.head.size.heads level bytes.now (model_of self.old) }

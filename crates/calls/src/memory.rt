@@ -8,7 +8,8 @@ use frames::refusal::Refusal;
 use store::types::Slot;
 
 impl Head {
-    // Lists the stamps below end that are not full, ascending, at the front of at least 96 places, and answers how many.
+    // Lists the stamps below end that are not full, ascending, at the front of at least 96 places, and answers how many. The memory
+    // is the caller's, here and in holders, since there is no heap.
     #[tactic(auto, unfolding(head::specs::Head::end))]
     pub fn missing(&self, list: &mut [u32]) -> Result<usize, Refusal>
         ensures answer { result ≡ missing_answer (model self.now) list.old }

@@ -1,4 +1,4 @@
-// Reading a frame.
+// Reading a frame. The size stands beside the bytes: it is the ring's, and no part of them.
 ghost use Rattle.std.specs.Prelude.{◌≡◌, ◌≤◌, true, length, map, IfOk, if◌then◌else◌, Ok, Err};
 ghost use Rattle.frames.specs.declared.refusal.Refusal.TheVariants.{FieldOutOfRange};
 ghost use Rattle.frames.specs.Values.{frame_ok};

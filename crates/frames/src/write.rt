@@ -1,4 +1,4 @@
-// Writing frames.
+// Writing frames. The size stands beside the frame and the memory: it is the ring's, and no part of them.
 ghost use Rattle.std.specs.Prelude.{◌≡◌, ℕ, ◌+◌, ◌*◌, ◌<◌, ◌≤◌, true, length, take, is_ok, IfOk, if◌then◌else◌, Ok};
 ghost use Rattle.std.proofs.Math.Seq.{paste};
 ghost use Rattle.frames.specs.Values.{frame_ok, data_frame, ack_frame, nack_frame};

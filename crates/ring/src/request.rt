@@ -3,6 +3,7 @@ use calls::answers::{Delivered, Hearing, Submission, Ticked, Turned};
 use frames::refusal::Refusal;
 
 // A call, with its inputs: a value and no closure, so that a list of calls can be made and a contract can speak of each.
+// The level is a number, as in the call.
 #[derive(Clone, Copy, PartialEq, Eq, Debug)]
 pub enum Call<'a> {
     Submit { level: u8, body: &'a [u8] },

@@ -11,6 +11,7 @@ use links::link::Link;
 use std::alloc::{AllocError, Global};
 
 impl<L: Link> Ring<L> {
+    // A match, since a call is a value here.
     fn answer(&mut self, head: u8, call: Call) -> Result<Answer, Refusal>
         ensures { Moves L.waits self.old head (call_of call.entry) (answered word_of result) self.new }
     {

@@ -55,7 +55,7 @@ impl<L: Link> Ring<L> {
         send(&mut self.link, self.heads.size, done)
     }
 
-    // A new message of a head.
+    // A new message of a head. The level is a number: a Level would ask more of the caller.
     pub fn submit(&mut self, head: u8, level: u8, body: &[u8]) -> Result<Submission, Refusal>
         ensures { Moves L.waits self.old head (submits level body.now) (answered submitted result) self.new }
     {

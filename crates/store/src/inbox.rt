@@ -28,7 +28,7 @@ impl Source {
         self.kept[self.place(number)?]
     }
 
-    // Sets what is pending under a number, if it has a place.
+    // Sets what is pending under a number, if it has a place. A bool: no value stands beside it.
     #[tactic(auto, using(crate::proofs::View::window_set))]
     fn put(&mut self, number: u32, kept: Option<Kept>) -> bool
         ensures answer { result ≡ in_window self.old.low number }
@@ -76,7 +76,7 @@ impl Inbox {
             .map_or(0, |source| source.low)
     }
 
-    // Sets what is pending under a name, if it has a place.
+    // Sets what is pending under a name, if it has a place. A bool: no value stands beside it.
     fn put(&mut self, name: Name, kept: Option<Kept>) -> bool
         ensures answer { result ≡ in_window (lows_of self.old name.source) name.number }
         ensures low { lows_of self.new ≡ lows_of self.old }
@@ -148,7 +148,7 @@ impl Inbox {
         ensures low { (s : ℕ) → lows_of self.new s ≡ max (lows_of self.old s) (table_of low s) }
         ensures pending { inbox_of self.new ≡ (λ s k. (if leb k (table_of low s) then None else inbox_of self.old s k)) }
     {
-        // By number: a field of a struct with ghost fields is not lent to an iter_mut.
+        // By number. Tried as an iter_mut zipped with the numbers: that the sources keep their length did not close.
         for (source, to) in low.iter().enumerate() {
             self.raise(source, *to);
         }

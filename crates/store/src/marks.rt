@@ -33,7 +33,7 @@ impl Queue {
         ensures { (h : Head) → Keeps h ring.me self.now → scratch.new ≡ holder_marks ring.size.heads h (self.now.base + from) 96 self.now.base ++ drop 96 scratch.old }
     {
         let mut marked = [false; 8];
-        // By place: nothing is said of what is written through an iter_mut over lent memory.
+        // By place. Tried as an iter_mut zipped with the slots: what the bytes end as did not close.
         for (i, slot) in self.slots.iter().enumerate() {
             let mark = if i < from {
                 0

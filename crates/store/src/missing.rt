@@ -19,7 +19,7 @@ impl Queue {
         ensures bound { result ≤ 96 }
         ensures after { list.new ≡ lacking self.now ++ drop result list.old }
     {
-        // Counted by hand: the count is the answer, and nothing is said of what is written through an iter_mut over lent memory.
+        // Counted by hand: the count is the answer too, and a chain beside an iter_mut would count again.
         let mut count = 0;
         for (i, slot) in self.slots[..self.places_known()].iter().enumerate() {
             if !slot.is_full() {

@@ -25,7 +25,7 @@ impl Queue {
     {
         let Ack { issuer, names, .. } = ack;
         self.slots[at] = Slot::Ack { issuer, names };
-        // By place: a field of a struct with ghost fields is not lent to an iter_mut.
+        // By place. Tried as an iter_mut zipped with the names: that the slots keep their length did not close.
         for (i, name) in names.as_slice().iter().enumerate() {
             self.slots[at + 1 + i] = inbox.slot_for(*name);
         }

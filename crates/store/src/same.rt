@@ -12,6 +12,7 @@ pub fn is_message(a: Name, b: Name) -> bool
     a.source == b.source && a.number == b.number
 }
 
+// That == of names is what the model calls the same name.
 pub fn is_name(a: Name, b: Name) -> bool
     ensures { result ≡ same_name (name_of a) (name_of b) }
 {
@@ -46,6 +47,7 @@ pub fn is_twice(names: Names) -> bool
         .any(|(i, name)| is_listed(*name, names, i + 1))
 }
 
+// As is_list; a definition of its own in the model.
 pub fn is_body(a: Body, b: Body) -> bool
     ensures { result ≡ same_bytes (body_of a) (body_of b) }
 {

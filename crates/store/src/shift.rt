@@ -1,7 +1,7 @@
 // A fixed table whose first items are given up.
 ghost use Rattle.std.specs.Prelude.{◌≡◌, ◌≤◌, ◌++◌, length, drop, replicate};
 
-// These items go to the front.
+// These items go to the front: of any type, where the writer of frames puts bytes at a place.
 fn put_front<T: Copy>(all: &mut [T], items: &[T])
     requires { length items.now ≤ length all.old }
     ensures { all.new ≡ items.now ++ drop (length items.now) all.old }

@@ -38,7 +38,7 @@ pub struct Queue {
     ghost small: { base ≤ 1000001 },
 }
 
-// What is pending of each source.
+// What is pending of each source. A step that leaves the lows as they were says so in a clause, as with a queue.
 #[derive(Clone, Copy)]
 pub struct Inbox {
     pub sources: [Source; 8],
