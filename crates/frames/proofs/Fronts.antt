@@ -1,13 +1,11 @@
 -- Writing one part after another at the front of a slice.
-use Rattle.std.proofs.Common.{◌≡◌, ℕ, ◌+◌, ◌*◌, ◌<◌, ◌≤◌, true, leb, List, [], ◌∷◌, ◌++◌, length, get_or, take, drop, Ok, Err, sym, refl, ap, ◌∙◌, mul-add, arith, length-append}
+use Rattle.std.proofs.Common.{◌≡◌, ℕ, ◌+◌, ◌*◌, ◌<◌, ◌≤◌, List, [], ◌∷◌, ◌++◌, length, get_or, take, drop, sym, refl, ap, ◌∙◌, mul-add, arith, length-append}
 use lib.Seq.{paste}
 use Rattle.std.proofs.lemmas.List.{take_at, take_all, drop_at, drop-drop, take_more, flat_map_more, length-take-le}
 use Rattle.std.proofs.lemmas.List.Edits.{paste-paste}
 use Rattle.std.specs.List.{flat_map}
-use Rattle.std.proofs.lemmas.Bool.{cond-true, le-leb}
-use Rattle.frames.specs.declared.refusal.Refusal.TheVariants.{MemoryTooShort, FieldOutOfRange}
-use Rattle.frames.specs.Values.{Name, Frame, frame_ok}
-use Rattle.frames.specs.Written.{name_bytes, written, write_answer}
+use Rattle.frames.specs.Values.{Name}
+use Rattle.frames.specs.Written.{name_bytes}
 
 pub paste_first : (a vs : List ℕ) (k : ℕ) → length vs ≡ k → paste a 0 vs k ≡ vs ++ drop (0 + k) a
 paste_first a vs k f = let q = take_all k vs (omega arith) in rw q
@@ -41,10 +39,3 @@ names_step d o o' ns i z h k e f =
     let j = flat_map_more name_bytes [] (take i ns) (get_or ns i z) in
     let g = paste-paste d 8 (flat_map name_bytes (take i ns)) (name_bytes (get_or ns i z)) (6 * i) 6 t refl k in
     f ∙ rw (e, take_more ns i z h, ← j, mul-add) g
-
--- there is room, and the fields are in range
-pub write_goes : (n : ℕ) (f : Frame) (len room : ℕ) → len ≡ length (written n f) → len ≤ room → frame_ok n f ≡ true → Ok len ≡ write_answer n f room
-write_goes n f len room l h ok =
-    ap Ok l
-    ∙ (sym (cond-true (frame_ok n f) (Ok (length (written n f))) (Err FieldOutOfRange) ok)
-    ∙ sym (cond-true (leb (length (written n f)) room) _ (Err MemoryTooShort) (le-leb (length (written n f)) room (omega arith))))

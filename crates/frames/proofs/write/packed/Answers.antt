@@ -7,16 +7,18 @@ use Rattle.frames.proofs.Tables.{filler_past}
 use Rattle.frames.proofs.Laws.{reads_back}
 use Rattle.frames.proofs.write.packed.Goals as goal
 
-pub returns : goal.returns
-returns c =
+pub returns-clause-rest : goal.returns-clause-rest
+returns-clause-rest c =
+    let n = c.args.size.heads in
+    let ws = written n (frame_of c.args.frame) in
+    let l = c.len-count.ensures.value n in
+    rw l (ap (drop (length ws)) c.write_front.ensures ∙ filler_past 0 32 (length ws) ws refl)
+
+pub returns-clause-back : goal.returns-clause-back
+returns-clause-back c =
     let n = c.args.size.heads in
     let f = frame_of c.args.frame in
-    let k = c.len-count.result in
     let m = c.args.size.most in
-    let l = c.len-count.ensures.value n in
-    let w : take k c.write_front.new.out ≡ written n f = ap (take k) c.write_front.ensures ∙ take_at (written n f) _ k (sym l) in
-    record {
-      bytes = w;
-      rest = rw l (ap (drop (length (written n f))) c.write_front.ensures ∙ filler_past 0 32 (length (written n f)) (written n f) refl);
-      back = ap (read n) w ∙ reads_back n f (omega arith) c.requires;
-    }
+    let k = c.len-count.result in
+    let w : take k c.write_front.new.out ≡ written n f = ap (take k) c.write_front.ensures ∙ take_at (written n f) _ k (sym (c.len-count.ensures.value n)) in
+    ap (read n) w ∙ reads_back n f (omega arith) c.requires
