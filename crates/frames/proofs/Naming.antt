@@ -3,8 +3,9 @@ use Rattle.std.proofs.Common.{◌≡◌, ℕ, ◌+◌, ◌-◌, ◌<◌, Bool, t
 use Rattle.std.proofs.lemmas.List.{length-take-le, length-map, get_or-map, drop-set-lt, drop-drop, drop-map, drop-replicate}
 use Rattle.frames.specs.declared.table.Table.{Table}
 use Rattle.frames.specs.declared.types.Name.{Name as CName}
+use Rattle.frames.specs.declared.types.Body.{Body}
 use Rattle.frames.specs.Tables.{items}
-use Rattle.frames.specs.Types.{name_of, names_of, spare, NamesRest}
+use Rattle.frames.specs.Types.{name_of, names_of, body_of, spare, NamesRest}
 
 pub length-items : {T : Type 0} {N : ℕ} (t : Table T N) → length (items t) ≡ t.count
 length-items t =
@@ -15,8 +16,14 @@ length-items t =
 pub length-names_of : (ns : Table CName 4) → length (names_of ns) ≡ ns.count
 length-names_of ns = length-map (items ns) name_of ∙ length-items ns
 
+pub length-body_of : (b : Body) → length (body_of b) ≡ b.len
+length-body_of b =
+    let f = b.places in
+    let g = b.within in
+    length-take-le b.len b.bytes (omega arith)
+
 -- the places that are left after one more name
-rest_more : (ns : List CName) (k : ℕ) (x : CName) → map name_of (drop k ns) ≡ replicate (4 - k) spare → map name_of (drop (k + 1) (set ns k x)) ≡ replicate (4 - (k + 1)) spare
+pub rest_more : (ns : List CName) (k : ℕ) (x : CName) → map name_of (drop k ns) ≡ replicate (4 - k) spare → map name_of (drop (k + 1) (set ns k x)) ≡ replicate (4 - (k + 1)) spare
 rest_more ns k x e =
     let h : k < k + 1 = omega arith in
     let s : 4 - k - 1 ≡ 4 - (k + 1) = omega arith in

@@ -1,5 +1,5 @@
 -- What the types of the code mean, and what stands in the places that they do not use.
-use Rattle.std.specs.Prelude.{◌≡◌, ℕ, ◌-◌, List, map, drop, replicate, Ok, Err, Result}
+use Rattle.std.specs.Prelude.{◌≡◌, ℕ, ◌-◌, List, map, take, drop, replicate, Ok, Err, Result}
 use Rattle.frames.specs.declared.refusal.Refusal.{Refusal}
 use Rattle.frames.specs.declared.types.Name.{Name as CName}
 use Rattle.frames.specs.declared.types.Level.{Level}
@@ -35,7 +35,7 @@ abbrev pub names_of : Table CName 4 → List Name
 names_of ns = map name_of (items ns)
 
 abbrev pub body_of : Body → List ℕ
-body_of b = items b.bytes
+body_of b = take b.len b.bytes
 
 abbrev pub packet_of : Table ℕ 32 → List ℕ
 packet_of p = items p
@@ -72,7 +72,7 @@ abbrev pub NamesRest : Table CName 4 → Type 0
 NamesRest ns = map name_of (drop ns.count ns.places) ≡ replicate (4 - ns.count) spare
 
 abbrev pub BodyRest : Body → Type 0
-BodyRest b = Filled 0 b.bytes
+BodyRest b = drop b.len b.bytes ≡ replicate (8 - b.len) 0
 
 abbrev pub PacketRest : Table ℕ 32 → Type 0
 PacketRest p = Filled 0 p

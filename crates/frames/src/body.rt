@@ -1,6 +1,6 @@
 // Bodies and packets from bytes.
-ghost use Rattle.std.specs.Prelude.{◌≡◌};
-ghost use Rattle.frames.specs.Types.{body_of};
+ghost use Rattle.std.specs.Prelude.{◌≡◌, ◌≤◌, length};
+ghost use Rattle.frames.specs.Types.{body_of, BodyRest};
 ghost use Rattle.frames.specs.Made.{BodyFrom, PacketFrom};
 
 use crate::refusal::Refusal;
@@ -15,19 +15,29 @@ impl TryFrom<&[u8]> for Body {
 
     fn try_from(bytes: &[u8]) -> Result<Body, Refusal> {
         match bytes.len() {
-            1..=8 => Ok(Body {
-                bytes: Table::copied(0, bytes),
-            }),
+            1..=8 => Ok(Body::copied(bytes)),
             _ => Err(Refusal::BadBodyLength),
         }
     }
 }
 
 impl Body {
+    fn copied(bytes: &[u8]) -> Body
+        requires { (1 ≤ length bytes.now) × (length bytes.now ≤ 8) }
+        ensures bytes { body_of result ≡ bytes.now }
+        ensures rest { BodyRest result }
+    {
+        let Table { places, count } = Table::<u8, 8>::copied(0, bytes);
+        Body {
+            bytes: places,
+            len: count as u8,
+        }
+    }
+
     pub fn as_slice(&self) -> &[u8]
         ensures { result.now ≡ body_of self.now }
     {
-        self.bytes.as_slice()
+        &self.bytes[..self.len as usize]
     }
 }
 

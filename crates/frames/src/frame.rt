@@ -25,7 +25,7 @@ impl Frame {
         ensures bound { result ≤ 32 }
     {
         match self {
-            Frame::Data(message) => 8 + message.body.bytes.count,
+            Frame::Data(message) => 8 + message.body.len as usize,
             Frame::Ack(ack) => 8 + 6 * ack.names.count,
             Frame::Nack(_) => 7,
         }

@@ -1,5 +1,5 @@
 // Sizes, levels, names, bodies, frames and packets. Each holds only what can be meant: the ghost fields say so.
-ghost use Rattle.std.specs.Prelude.{◌<◌, ◌≤◌};
+ghost use Rattle.std.specs.Prelude.{◌≡◌, ◌<◌, ◌≤◌, length};
 
 use crate::table::Table;
 
@@ -40,11 +40,15 @@ pub struct Name {
 // The names of an ACK: at most four.
 pub type Names = Table<Name, 4>;
 
-// What a message says: one to eight bytes.
+// What a message says: the first len of eight bytes. An array and a byte, and no Table: with a table's count a body would take 16 bytes in
+// place of 9, what a head keeps pending three times as many, and a delivered answer half as many again.
 #[derive(Clone, Copy)]
 pub struct Body {
-    pub bytes: Table<u8, 8>,
-    ghost some: { 1 ≤ bytes.count },
+    pub bytes: [u8; 8],
+    pub len: u8,
+    ghost places: { length bytes ≡ 8 },
+    ghost some: { 1 ≤ len },
+    ghost within: { len ≤ 8 },
 }
 
 // A frame's bytes, as a link carries them. No frame is longer than 32.

@@ -20,12 +20,11 @@ fn put(out: &mut [u8], at: usize, bytes: &[u8])
 
 impl Message {
     fn write(&self, out: &mut [u8])
-        requires { 8 + self.now.body.bytes.count ≤ length out.old }
+        requires { 8 + self.now.body.len ≤ length out.old }
         ensures { (n : ℕ) → out.new ≡ front_written n (data_frame (message_meant self.now)) out.old }
     {
         let [source, a, b, c, d, level] = self.name.to_bytes();
-        let len = self.body.bytes.count as u8;
-        put(out, 0, &[DATA, source, a, b, c, d, level, len]);
+        put(out, 0, &[DATA, source, a, b, c, d, level, self.body.len]);
         put(out, 8, self.body.as_slice());
     }
 }
