@@ -8,7 +8,7 @@ ghost use Rattle.frames.specs.Types.{packet_of};
 ghost use Rattle.links.specs.Meaning.{AfterPut, AfterTake, Cleared};
 
 use crate::link::Link;
-use crate::types::{Air, Choice, Choices, HeadSet, Place, Places};
+use crate::types::{Air, Choice, Choices, HeadSet, Place, Places, empty_packet};
 use frames::table::Table;
 use frames::types::{Packet, RingSize};
 
@@ -67,7 +67,7 @@ impl Places {
         ensures free { map place_of result.table.places ≡ replicate 16 blank }
     {
         let free = Place {
-            packet: Table::empty(0),
+            packet: empty_packet(),
             heads: HeadSet::first(0),
         };
         Places {

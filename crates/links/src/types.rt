@@ -1,5 +1,5 @@
 // What wire and air keep: packets in fixed tables, the oldest first.
-ghost use Rattle.std.specs.Prelude.{◌≡◌, ◌<◌, ◌≤◌, length};
+ghost use Rattle.std.specs.Prelude.{◌≡◌, ◌<◌, ◌≤◌, length, replicate};
 
 use frames::table::Table;
 use frames::types::Packet;
@@ -62,4 +62,15 @@ pub struct Air {
     pub(crate) choices: Choices,
     pub(crate) heads: usize,
     ghost within: { heads ≤ 8 },
+}
+
+// What stands in the places that are not in use.
+pub(crate) fn empty_packet() -> Packet
+    ensures len { result.count ≡ 0 }
+    ensures bytes { result.places ≡ replicate 32 0 }
+{
+    Table {
+        places: [0; 32],
+        count: 0,
+    }
 }

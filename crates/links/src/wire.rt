@@ -7,7 +7,7 @@ ghost use Rattle.links.specs.Wire.{oldest, put_wire, taken_wire, take_wire, clea
 ghost use Rattle.links.specs.Types.{taken_of, queue_of, wire_of, wire_waits};
 
 use crate::link::Link;
-use crate::types::{Queue, Wire};
+use crate::types::{Queue, Wire, empty_packet};
 use frames::table::Table;
 use frames::types::{Packet, RingSize};
 
@@ -16,7 +16,7 @@ fn empty_queues(heads: usize) -> Table<Queue, 8>
     requires { heads ≤ 8 }
     ensures { map queue_of (items result) ≡ clear_wire heads }
 {
-    let queue = Table::empty(Table::empty(0));
+    let queue = Table::empty(empty_packet());
     Table {
         places: [queue; 8],
         count: heads,
