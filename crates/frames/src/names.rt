@@ -1,5 +1,5 @@
 // Names, lists of names, and whom a NACK asks.
-ghost use Rattle.std.specs.Prelude.{◌≡◌, []};
+ghost use Rattle.std.specs.Prelude.{◌≡◌, [], map};
 ghost use Rattle.frames.specs.Values.{name_ok, names_ok, asked_ok};
 ghost use Rattle.frames.specs.Types.{meant, name_of, names_of, asked_of, NamesRest};
 ghost use Rattle.frames.specs.Written.{name_bytes};
@@ -41,6 +41,13 @@ impl Name {
     }
 }
 
+// Whether each of these names is in range for a ring of this size.
+fn all_suit(names: &[Name], size: RingSize) -> bool
+    ensures { result ≡ names_ok size.heads (map name_of names.now) }
+{
+    names.iter().all(|name| name.suits(size))
+}
+
 // Fills a place of Names that is not used.
 const UNUSED: Name = Name {
     source: 0,
@@ -60,7 +67,7 @@ impl Names {
     pub fn suit(&self, size: RingSize) -> bool
         ensures { result ≡ names_ok size.heads (names_of self.now) }
     {
-        self.as_slice().iter().all(|name| name.suits(size))
+        all_suit(self.as_slice(), size)
     }
 }
 

@@ -1,12 +1,12 @@
 // What a head reads off its queue: the top ACK, whether there was traffic, the frame of a slot; and whom and when it asks.
-ghost use Rattle.std.specs.Prelude.{◌≡◌, ℕ, ◌+◌, ◌<◌, ◌≤◌, min, MatchOption};
+ghost use Rattle.std.specs.Prelude.{◌≡◌, ℕ, ◌+◌, ◌<◌, ◌≤◌, min, length, MatchOption};
 ghost use Rattle.frames.specs.Types.{asked_of};
 ghost use Rattle.head.specs.Head.{Head, top as m_top};
 ghost use Rattle.head.specs.Hear.{frames_of};
 ghost use Rattle.head.specs.Queue.{ack_at, last_ack as m_last_ack};
 ghost use Rattle.head.specs.Tick.{another as m_another, asked as m_asked, busy, issuer_or, wait as m_wait};
 ghost use Rattle.store.specs.Look.{put_of, top_of};
-ghost use Rattle.store.specs.Parts.{names_at, slot_of, slots_of};
+ghost use Rattle.store.specs.Parts.{names_at, queue_of, slot_of, slots_of};
 
 use crate::types::{InRing, Queue, Slot};
 use frames::types::{Ack, Frame, Message, Names, To};
@@ -48,6 +48,18 @@ impl Slot {
     }
 }
 
+// Whether one of the last n ACKs among these slots names a message.
+fn any_named(slots: &[Slot], n: u8) -> bool
+    ensures { (b : ℕ) → result ≡ busy (queue_of b slots.now) (length slots.now) b n }
+{
+    slots
+        .iter()
+        .rev()
+        .filter_map(|slot| slot.names())
+        .take(n as usize)
+        .any(|names| names.count > 0)
+}
+
 impl Queue {
     // The last ACK among the first places. Past the queue there is none, so the k stamps may be more than the places.
     pub(crate) fn last_ack(&self, count: usize) -> Option<Ack>
@@ -73,12 +85,7 @@ impl Queue {
     pub fn is_busy(&self, n: u8) -> bool
         ensures { result ≡ busy (slots_of self.now) 96 self.now.base n }
     {
-        self.slots
-            .iter()
-            .rev()
-            .filter_map(|slot| slot.names())
-            .take(n as usize)
-            .any(|names| names.count > 0)
+        any_named(&self.slots, n)
     }
 
     // The frame of the slot at a stamp, where it is full.

@@ -10,12 +10,12 @@ use Rattle.head.specs.Queue.{Queue}
 use Rattle.head.specs.Tick.{busy}
 use Rattle.store.specs.Parts.{names_at, queue_of}
 use Rattle.store.proofs.Listed.{busy_list, lists_back}
-use Rattle.store.proofs.types.Queue.is_busy.Goals as goal
+use Rattle.store.proofs.look.any_named.Goals as goal
 
 pub returns : goal.returns
-returns c =
-    let s = c.args.self.now in
-    let q : Queue = queue_of s.base s.slots in
+returns c b =
+    let ss = c.args.slots.now in
+    let q : Queue = queue_of b ss in
     any_from_yields_List (λ (ns : Table CName 4). ltb 0 ns.count) _ _ _ c.any.ensures.ran
-    (YieldsList-from_take c.args.n (YieldsList-from_filter_map _ names_at (YieldsList-from_rev_slice s.slots (cc)) c.filter_map.ensures.closure (λ x r q k. search (rules, tests))) c.take.ensures.count) (λ x b q k. search (rules, tests))
-    ∙ (busy_list q s.base (reverse s.slots) c.args.n (lists_back s.base s.slots) ∙ ap (λ k. busy q k s.base c.args.n) (length-reverse s.slots ∙ s.places))
+    (YieldsList-from_take c.args.n (YieldsList-from_filter_map _ names_at (YieldsList-from_rev_slice ss (cc)) c.filter_map.ensures.closure (λ x r q k. search (rules, tests))) c.take.ensures.count) (λ x b q k. search (rules, tests))
+    ∙ (busy_list q b (reverse ss) c.args.n (lists_back b ss) ∙ ap (λ k. busy q k b c.args.n) (length-reverse ss))
