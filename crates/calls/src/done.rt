@@ -9,6 +9,7 @@ use store::put::frames_there;
 
 impl<A> Done<A> {
     // An answer, with the frame to put, if there is one.
+    #[inline]
     pub(crate) fn new(answer: A, frame: Option<Frame>) -> Done<A>
         ensures answer { result.answer ≡ answer }
         ensures puts { puts_of result.puts ≡ put_of frame }

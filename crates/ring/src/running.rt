@@ -16,6 +16,7 @@ use frames::refusal::Refusal;
 use links::link::Link;
 
 // A call on the head at a place of a table.
+#[inline(always)]
 fn call_at<A, F: FnOnce(&mut Member) -> Result<Done<A>, Refusal>>(
     heads: &mut [Member],
     head: usize,
@@ -41,6 +42,7 @@ impl<L: Link> Ring<L> {
     }
 
     // A call on a head of the ring: what it left to put is put, and its answer is answered.
+    #[inline(always)]
     fn act<A, F: FnOnce(&mut Member) -> Result<Done<A>, Refusal>>(
         &mut self,
         head: u8,

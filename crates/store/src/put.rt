@@ -22,6 +22,7 @@ pub fn no_frames() -> Frames
 }
 
 // One frame more, if there is one.
+#[inline]
 fn add(frames: &mut Frames, frame: Option<Frame>)
     requires { length (puts_of frames.old) + length (put_of frame) ≤ 3 }
     ensures { puts_of frames.new ≡ puts_of frames.old ++ put_of frame }
@@ -32,6 +33,7 @@ fn add(frames: &mut Frames, frame: Option<Frame>)
 }
 
 // Those of three frames that are there, in this order.
+#[inline]
 pub fn frames_there(first: Option<Frame>, second: Option<Frame>, third: Option<Frame>) -> Frames
     ensures { puts_of result ≡ put_of first ++ (put_of second ++ put_of third) }
 {

