@@ -8,7 +8,7 @@ pub prefixed : List ℕ → Option (List ℕ) → Option (List ℕ)
 prefixed xs None = None
 prefixed xs (Some ys) = Some (xs ++ ys)
 
-prefixed_none : (o : Option (List ℕ)) → prefixed [] o ≡ o
+pub prefixed_none : (o : Option (List ℕ)) → prefixed [] o ≡ o
 unfolding prefixed
 prefixed_none None = refl
 prefixed_none (Some ys) = refl

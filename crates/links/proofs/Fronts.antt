@@ -21,7 +21,7 @@ module _ {X Y : Type 0} (g : X → Y) (f : Y → Y) (xs ys : List X) (i : ℕ) w
 
 -- the part in use was lent, and came back as long as before
 module _ {X Y : Type 0} (g : X → Y) (n : ℕ) (xs : List X) where
-  lent : map g (take (n - 0) xs) ≡ map g (take n xs)
+  pub lent : map g (take (n - 0) xs) ≡ map g (take n xs)
   lent = ap (λ k. map g (take k xs)) (let e : n - 0 ≡ n = omega arith in e)
 
   pub given_back : (F : List Y → List Y) (ys post : List X) → n ≤ length xs → length ys ≡ length (take (n - 0) xs) → map g ys ≡ F (map g (take (n - 0) xs)) → map g (take n (ys ++ post)) ≡ F (map g (take n xs))

@@ -12,7 +12,7 @@ use Rattle.ring.specs.Runs.{LawfulRun, call_of, word_of}
 
 module _ {L : Type 0} (waits : L → Waits) (q : Request) (x : Outcome) (m s : Ring L) (made : Moves waits m q.head (call_of q.call) (answered word_of x.result) s) (same : x.head ≡ q.head) where
   -- one call more
-  run_more : (qs : List Request) (xs : List Outcome) (es : List Event) (r : Ring L) → Trip r.heads.size.heads es (ring_over waits r) → LawfulRun waits qs xs es r m → LawfulRun waits (qs ++ q ∷ []) (xs ++ x ∷ []) es r s
+  pub run_more : (qs : List Request) (xs : List Outcome) (es : List Event) (r : Ring L) → Trip r.heads.size.heads es (ring_over waits r) → LawfulRun waits qs xs es r m → LawfulRun waits (qs ++ q ∷ []) (xs ++ x ∷ []) es r s
   run_more [] [] es r t l =
       let n : Moves waits r q.head (call_of q.call) (answered word_of x.result) s = subst (λ (z : Ring L). Moves waits z q.head (call_of q.call) (answered word_of x.result) s) (sym l) made in
       (s, n, same, n.leads es t, n.law es t, refl)
