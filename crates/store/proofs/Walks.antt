@@ -2,10 +2,11 @@
 use Rattle.std.proofs.Common.{◌≡◌, ℕ, zero, suc, ◌+◌, ◌-◌, ◌<◌, ◌≤◌, max, Bool, true, false, cond, eqb, Some, None, Option, sym, refl, ap, ◌∙◌, subst, inl, inr, add-zero, add-suc, suc-add, zero-add, arith}
 use Rattle.std.proofs.lemmas.Bool.{cases_Bool}
 use Rattle.frames.specs.Values.{Name}
-use Rattle.head.specs.Slots.{Slot, known, named}
+use Rattle.head.specs.Slots.{Slot, known, named, is_ack}
+use Rattle.head.proofs.Walk.{acks_suc}
 use Rattle.head.proofs.Names.{highest_true, highest_false, highest_zero}
 use Rattle.head.proofs.Rising.{highest_from}
-use Rattle.head.specs.Queue.{Queue, first_not, past_last, highest, raise, names_it, place_of}
+use Rattle.head.specs.Queue.{Queue, first_not, past_last, highest, raise, names_it, place_of, acks, one_if}
 
 module _ (p : Slot → Bool) (q : Queue) where
   pub first_more : (k t : ℕ) → p (q t) ≡ true → first_not p q (suc k) t ≡ first_not p q k (suc t)
@@ -31,6 +32,15 @@ module _ (p : Slot → Bool) (q : Queue) where
   pub past_none : (t : ℕ) → past_last p q 0 t ≡ t
   unfolding past_last
   past_none t = refl
+
+-- counting ACKs
+
+module _ (q : Queue) where
+  pub acks_step : (N b i : ℕ) (t : Bool) → i < N → is_ack (q (b + i)) ≡ t → acks q (N - i) (b + i) ≡ one_if t + acks q (N - (i + 1)) (b + (i + 1))
+  acks_step N b i t h e =
+      let f : b + (i + 1) ≡ suc (b + i) = omega arith in
+      let g : N - i ≡ suc (N - (i + 1)) = omega arith in
+      ap (λ k. acks q k (b + i)) g ∙ (acks_suc q (N - (i + 1)) (b + i) ∙ ap (λ x. one_if x + acks q (N - (i + 1)) (suc (b + i))) e ∙ ap (λ u. one_if t + acks q (N - (i + 1)) u) (sym f))
 
 -- the highest numbers
 

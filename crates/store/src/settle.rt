@@ -45,11 +45,14 @@ impl Queue {
     pub fn acks(&self) -> usize
         ensures { result ≡ m_acks (slots_of self.now) 96 self.now.base }
     {
-        // A sum and no count of a filter, which takes half as long again: it is made after every call.
-        self.slots
-            .iter()
-            .map(|slot| usize::from(slot.is_ack()))
-            .sum()
+        // A loop and no chain: it is made after every call, and filter and count, or map and sum, take half as many instructions more.
+        let mut n = 0;
+        for s in &self.slots {
+            if s.is_ack() {
+                n += 1;
+            }
+        }
+        n
     }
 
     // The number of data slots of the ACK at base, where it can be given up.

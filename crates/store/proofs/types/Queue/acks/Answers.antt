@@ -1,25 +1,30 @@
-use Rattle.std.proofs.Common.{◌≡◌, ◌<◌, ◌^◌, cond, ◌∙◌, rules, tests, of_calls, sym, arith}
-use Rattle.std.specs.List.{count_by}
-use Rattle.std.proofs.lemmas.Iterator.{YieldsList-from_slice, YieldsList-from_map}
-use Rattle.std.proofs.lemmas.Iterator.Consumers.{sum_by_from_yields_List, fits_by_from_yields_list}
-use Rattle.std.proofs.lemmas.List.Sums.{length-filter, count_by-le-length}
+use Rattle.std.proofs.Common.{◌≡◌, ◌+◌, ◌-◌, true, false, sym, ap, ◌∙◌, arith}
 use Rattle.head.specs.Slots.{is_ack}
-use Rattle.store.specs.Parts.{queue_of, slot_of}
-use Rattle.store.proofs.Listed.{acks_list, lists_all}
+use Rattle.head.specs.Queue.{Queue, acks}
+use Rattle.store.specs.Parts.{queue_of}
+use Rattle.head.proofs.Walk.{acks_zero}
+use Rattle.store.proofs.View.{queue_read}
+use Rattle.store.proofs.Walks.{acks_step}
+use Rattle.store.proofs.types.Queue.acks.Goals.{then-is_ack, else-is_ack}
 use Rattle.store.proofs.types.Queue.acks.Goals as goal
 
-pub sum-requires : goal.sum-requires
-sum-requires c =
+pub loop-s-preserved : goal.loop-s-preserved
+loop-s-preserved c =
     let s = c.args.self.now in
-    let few : count_by (λ x. is_ack (slot_of x)) s.slots < 2 ^ 64 = omega (arith, count_by-le-length (λ x. is_ack (slot_of x)) s.slots, s.places) in
-    record {
-      can = search of_calls;
-      finite = search of_calls;
-      fits = fits_by_from_yields_list (λ x. cond (is_ack (slot_of x)) 1 0) s.slots c.map.result _ (YieldsList-from_map _ (λ x. cond (is_ack (slot_of x)) 1 0) (YieldsList-from_slice s.slots (cc)) c.map.ensures.closure (λ x r q k. search (rules, tests))) few;
-    }
+    let q : Queue = queue_of s.base s.slots in
+    let i = c.loop-s.s-index in
+    let r = ap is_ack (queue_read s.base s.slots i _ (omega arith)) ∙ sym c.is_ack.ensures in
+    elim c.if-is_ack.branch [
+      | then-is_ack w ↦ let e = acks_step q 96 s.base i true (omega arith) (r ∙ w.if-is_ack.true) in let n = w.n-is in let v = c.loop-s.invariant in (omega arith, omega arith)
+      | else-is_ack w ↦ let e = acks_step q 96 s.base i false (omega arith) (r ∙ w.if-is_ack.false) in let n = w.n-is in let v = c.loop-s.invariant in (omega arith, omega arith)
+    ]
 
 pub returns : goal.returns
 returns c =
     let s = c.args.self.now in
-    sum_by_from_yields_List (λ x. cond (is_ack (slot_of x)) 1 0) s.slots c.map.result _ c.sum.ensures.ran (YieldsList-from_map _ (λ x. cond (is_ack (slot_of x)) 1 0) (YieldsList-from_slice s.slots (cc)) c.map.ensures.closure (λ x r q k. search (rules, tests)))
-    ∙ (sym (length-filter (λ x. is_ack (slot_of x)) s.slots) ∙ sym (rw (s.places) at (acks_list (queue_of s.base s.slots) s.base s.slots (lists_all s.base s.slots))))
+    let q : Queue = queue_of s.base s.slots in
+    let i = c.loop-s.s-index in
+    let f : 96 - i ≡ 0 = omega arith in
+    let e : acks q (96 - i) (s.base + i) ≡ 0 = ap (λ k. acks q k (s.base + i)) f ∙ acks_zero q (s.base + i) in
+    let v = c.loop-s.invariant.0 in
+    omega arith
