@@ -74,6 +74,7 @@ impl<T: Copy, const N: usize> Table<T, N> {
     }
 
     // Takes an item away, where there is one at this place; those after it move up.
+    #[tactic(auto, using(crate::proofs::Tables::front_less))]
     pub fn remove(&mut self, i: usize) -> Option<T>
         ensures answer { result ≡ slice_get (items self.old) i }
         ensures after { items self.new ≡ remove (items self.old) i }
